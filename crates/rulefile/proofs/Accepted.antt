@@ -26,14 +26,14 @@ use Rattle.rulefile.proofs.Sound.{after-took, wholly-ends, Gives, given, gives
 
 -- ---- kinds
 
-abbrev numberOf : Kind → ℕ
+abbrev pub numberOf : Kind → ℕ
 numberOf Head = 1
 numberOf Rule = 2
 numberOf Clause = 3
 numberOf Wish = 4
 numberOf ActKind = 5
 
-kind-number : (n : ℕ) (k : Kind) → kindOf n ≡ Ok k → n ≡ numberOf k
+pub kind-number : (n : ℕ) (k : Kind) → kindOf n ≡ Ok k → n ≡ numberOf k
 kind-number n k e = go-1 (eqb n 1) refl e
   where
     is : (m : ℕ) (x : Kind) → eqb n m ≡ true → numberOf x ≡ m → x ≡ k → n ≡ numberOf k
@@ -122,15 +122,15 @@ later-took f ActKind bs e = adding-took _ _ _ bs act-ends e
 -- ---- records that follow one another
 
 -- what later records add to f makes g
-record Adds (f : FileModel) (rs : List RecordBytes) (g : FileModel) : Type 0 where
-  count : f .count ≡ g .count
-  house : f .house ≡ g .house
-  only : All (λ (r : RecordBytes). little (r .kind) ≡ 1 → ⊥) rs
-  order : map Ok (f .order) ++ map (λ (r : RecordBytes). kindOf (little (r .kind))) rs ≡ map Ok (g .order)
-  rules : map (λ x. took x []) (f .rules) ++ map (ruleBody (f .count)) (bodiesOf 2 rs) ≡ map (λ x. took x []) (g .rules)
-  clauses : map (λ x. took x []) (f .clauses) ++ map (clauseBody (f .count)) (bodiesOf 3 rs) ≡ map (λ x. took x []) (g .clauses)
-  wishes : map (λ x. took x []) (f .wishes) ++ map (wishBody (f .count)) (bodiesOf 4 rs) ≡ map (λ x. took x []) (g .wishes)
-  acts : map (λ x. took x []) (f .acts) ++ map actBody (bodiesOf 5 rs) ≡ map (λ x. took x []) (g .acts)
+pub record Adds (f : FileModel) (rs : List RecordBytes) (g : FileModel) : Type 0 where
+  pub count : f .count ≡ g .count
+  pub house : f .house ≡ g .house
+  pub only : All (λ (r : RecordBytes). little (r .kind) ≡ 1 → ⊥) rs
+  pub order : map Ok (f .order) ++ map (λ (r : RecordBytes). kindOf (little (r .kind))) rs ≡ map Ok (g .order)
+  pub rules : map (λ x. took x []) (f .rules) ++ map (ruleBody (f .count)) (bodiesOf 2 rs) ≡ map (λ x. took x []) (g .rules)
+  pub clauses : map (λ x. took x []) (f .clauses) ++ map (clauseBody (f .count)) (bodiesOf 3 rs) ≡ map (λ x. took x []) (g .clauses)
+  pub wishes : map (λ x. took x []) (f .wishes) ++ map (wishBody (f .count)) (bodiesOf 4 rs) ≡ map (λ x. took x []) (g .wishes)
+  pub acts : map (λ x. took x []) (f .acts) ++ map actBody (bodiesOf 5 rs) ≡ map (λ x. took x []) (g .acts)
 
 adds-none : (f : FileModel) → Adds f [] f
 adds-none f = record {

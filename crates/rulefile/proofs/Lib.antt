@@ -5,3 +5,4 @@ pub mod Frames
 pub mod Drafts
 pub mod Fits
 pub mod Accepted
+pub mod Complete

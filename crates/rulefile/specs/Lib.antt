@@ -6,3 +6,4 @@ pub mod Parser
 pub mod Format
 pub mod Answers
 pub mod Laws
+pub mod Reading

@@ -4,8 +4,9 @@ ghost use mathlib.Core.List.{[]};
 ghost use mathlib.Core.Path.{_≡_};
 ghost use Rattle.std.specs.Vec.{made};
 ghost use Rattle.rulefile.specs.Format.{roomAt, laterBody, first as first-spec, later, decode, fileOrHeadAlone};
-ghost use Rattle.rulefile.specs.Answers.{fileOf, draftOf, Parses, parsedDraft, locatedAt, Reads};
-ghost use Rattle.rulefile.specs.Laws.{Fits, Accepted};
+ghost use Rattle.rulefile.specs.Answers.{fileOf, draftOf, Parses, parsedDraft, locatedAt};
+ghost use Rattle.rulefile.specs.Laws.{Fits};
+ghost use Rattle.rulefile.specs.Reading.{Reading};
 use crate::body::act;
 use crate::body::clause;
 use crate::body::head;
@@ -176,8 +177,7 @@ fn located(fault: Fault, at: usize) -> ReadError
 
 // The file that the bytes stand for, or why and where they are refused.
 pub fn read(heap: Global, bytes: &[u8]) -> Result<RuleFile, ReadError>
-    ensures meaning { λ r. ⌜ Reads (decode (now (bytes .entry))) r ⌝ }
-    ensures laws { λ r. ⌜ made r (λ f. Accepted (now (bytes .entry)) (fileOf f)) ⌝ }
+    ensures { λ r. ⌜ Reading (now (bytes .entry)) r ⌝ }
 {
     let size = bytes.len();
     if size > MOST_BYTES {
