@@ -40,7 +40,11 @@ fn add_literal<W: fmt::Write>(f: &mut Formatter<W>, literal: Literal) -> fmt::Re
 }
 
 // The literals with a word between them.
-fn add_literals<W: fmt::Write>(f: &mut Formatter<W>, literals: &[Literal], word: &str) -> fmt::Result {
+fn add_literals<W: fmt::Write>(
+    f: &mut Formatter<W>,
+    literals: &[Literal],
+    word: &str,
+) -> fmt::Result {
     let mut between = "";
     for literal in literals {
         f.write_str(between)?;
@@ -72,7 +76,7 @@ fn add_constraint<W: fmt::Write>(f: &mut Formatter<W>, constraint: &Constraint) 
     f.write_str("}")
 }
 
-fn add_rule<W: fmt::Write>(f: &mut Formatter<W>, number: usize, rule: &Rule) -> fmt::Result {
+pub fn add_rule<W: fmt::Write>(f: &mut Formatter<W>, number: usize, rule: &Rule) -> fmt::Result {
     write!(f, "rule {number}: ")?;
     add_constraint(f, &rule.head)?;
     let mut between = " if ";
@@ -130,7 +134,12 @@ struct Listed {
 }
 
 // The next record of the kind.
-fn add_next<W: fmt::Write>(f: &mut Formatter<W>, file: &RuleFile, listed: &mut Listed, kind: Kind) -> fmt::Result {
+fn add_next<W: fmt::Write>(
+    f: &mut Formatter<W>,
+    file: &RuleFile,
+    listed: &mut Listed,
+    kind: Kind,
+) -> fmt::Result {
     match kind {
         Kind::Head => {}
         Kind::Rule => {
@@ -170,7 +179,12 @@ pub struct FileText<'a> {
 pub impl fmt::Display for FileText<'_> as FileTextDisplay {
     fn fmt<W: fmt::Write>(&self, f: &mut Formatter<W>) -> fmt::Result {
         add_head(f, self.file)?;
-        let mut listed = Listed { rules: 0, clauses: 0, wishes: 0, acts: 0 };
+        let mut listed = Listed {
+            rules: 0,
+            clauses: 0,
+            wishes: 0,
+            acts: 0,
+        };
         for kind in self.file.order.as_slice() {
             add_next(f, self.file, &mut listed, *kind)?;
         }

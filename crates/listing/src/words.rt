@@ -4,7 +4,8 @@ use rulefile::Refusal;
 pub fn refusal_words(why: Refusal) -> &'static str {
     match why {
         Refusal::FileTooLong => "the file is longer than 32768 bytes",
-        Refusal::RecordCut => "fewer than four bytes are left for a record's length, or the file is empty",
+        Refusal::RecordCut =>
+            "fewer than four bytes are left for a record's length, or the file is empty",
         Refusal::LengthRange => "a record's length is not from 2 to 1024",
         Refusal::LengthPastEnd => "a record's length is more than the bytes left after it",
         Refusal::UnknownKind => "a record's kind is not from 1 to 5",

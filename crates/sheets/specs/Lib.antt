@@ -1,2 +1,5 @@
 pub mod Lists
 pub mod Sheets
+pub mod Literals
+pub mod Judging
+pub mod Scaling
