@@ -115,62 +115,74 @@ module _ (g f : FileModel) (r : RecordBytes) (rs : List RecordBytes) (a : Adds g
       let n = kind-number (little (r .kind)) Rule e in
       let here : map (λ x. took x []) (g .rules) ++ (ruleBody (g .count)) (r .body) ∷ map (ruleBody (g .count)) (bodiesOf 2 rs) ≡ map (λ x. took x []) (f .rules) = rw n at (a .rules) in
       let x = next-of (λ x. took x []) (g .rules) (f .rules) _ _ here in
-      record
-        { file = withRule g (x .0)
-        ; says = later-is g (little (r .kind)) Rule (r .body) e (adding-made _ _ _ (r .body) [] (x .0) _ (room-at _ (next-room (λ x. took x []) (g .rules) (f .rules) _ _ here (fits .few-rules))) (x .1) refl)
-        ; adds = record
-            { count = a .count; house = a .house; only = a .only .1; order = o
-            ; rules = x .2
-            ; clauses = rw n at (a .clauses)
-            ; wishes = rw n at (a .wishes)
-            ; acts = rw n at (a .acts)
-            }
-        }
+      record {
+        file = withRule g (x .0);
+        says = later-is g (little (r .kind)) Rule (r .body) e (adding-made _ _ _ (r .body) [] (x .0) _ (room-at _ (next-room (λ x. took x []) (g .rules) (f .rules) _ _ here (fits .few-rules))) (x .1) refl);
+        adds = record {
+          count = a .count;
+          house = a .house;
+          only = a .only .1;
+          order = o;
+          rules = x .2;
+          clauses = rw n at (a .clauses);
+          wishes = rw n at (a .wishes);
+          acts = rw n at (a .acts);
+        };
+      }
   next Clause e o =
       let n = kind-number (little (r .kind)) Clause e in
       let here : map (λ x. took x []) (g .clauses) ++ (clauseBody (g .count)) (r .body) ∷ map (clauseBody (g .count)) (bodiesOf 3 rs) ≡ map (λ x. took x []) (f .clauses) = rw n at (a .clauses) in
       let x = next-of (λ x. took x []) (g .clauses) (f .clauses) _ _ here in
-      record
-        { file = withClause g (x .0)
-        ; says = later-is g (little (r .kind)) Clause (r .body) e (adding-made _ _ _ (r .body) [] (x .0) _ (room-at _ (next-room (λ x. took x []) (g .clauses) (f .clauses) _ _ here (fits .few-clauses))) (x .1) refl)
-        ; adds = record
-            { count = a .count; house = a .house; only = a .only .1; order = o
-            ; rules = rw n at (a .rules)
-            ; clauses = x .2
-            ; wishes = rw n at (a .wishes)
-            ; acts = rw n at (a .acts)
-            }
-        }
+      record {
+        file = withClause g (x .0);
+        says = later-is g (little (r .kind)) Clause (r .body) e (adding-made _ _ _ (r .body) [] (x .0) _ (room-at _ (next-room (λ x. took x []) (g .clauses) (f .clauses) _ _ here (fits .few-clauses))) (x .1) refl);
+        adds = record {
+          count = a .count;
+          house = a .house;
+          only = a .only .1;
+          order = o;
+          rules = rw n at (a .rules);
+          clauses = x .2;
+          wishes = rw n at (a .wishes);
+          acts = rw n at (a .acts);
+        };
+      }
   next Wish e o =
       let n = kind-number (little (r .kind)) Wish e in
       let here : map (λ x. took x []) (g .wishes) ++ (wishBody (g .count)) (r .body) ∷ map (wishBody (g .count)) (bodiesOf 4 rs) ≡ map (λ x. took x []) (f .wishes) = rw n at (a .wishes) in
       let x = next-of (λ x. took x []) (g .wishes) (f .wishes) _ _ here in
-      record
-        { file = withWish g (x .0)
-        ; says = later-is g (little (r .kind)) Wish (r .body) e (adding-made _ _ _ (r .body) [] (x .0) _ (room-at _ (next-room (λ x. took x []) (g .wishes) (f .wishes) _ _ here (fits .few-wishes))) (x .1) refl)
-        ; adds = record
-            { count = a .count; house = a .house; only = a .only .1; order = o
-            ; rules = rw n at (a .rules)
-            ; clauses = rw n at (a .clauses)
-            ; wishes = x .2
-            ; acts = rw n at (a .acts)
-            }
-        }
+      record {
+        file = withWish g (x .0);
+        says = later-is g (little (r .kind)) Wish (r .body) e (adding-made _ _ _ (r .body) [] (x .0) _ (room-at _ (next-room (λ x. took x []) (g .wishes) (f .wishes) _ _ here (fits .few-wishes))) (x .1) refl);
+        adds = record {
+          count = a .count;
+          house = a .house;
+          only = a .only .1;
+          order = o;
+          rules = rw n at (a .rules);
+          clauses = rw n at (a .clauses);
+          wishes = x .2;
+          acts = rw n at (a .acts);
+        };
+      }
   next ActKind e o =
       let n = kind-number (little (r .kind)) ActKind e in
       let here : map (λ x. took x []) (g .acts) ++ (actBody) (r .body) ∷ map (actBody) (bodiesOf 5 rs) ≡ map (λ x. took x []) (f .acts) = rw n at (a .acts) in
       let x = next-of (λ x. took x []) (g .acts) (f .acts) _ _ here in
-      record
-        { file = withAct g (x .0)
-        ; says = later-is g (little (r .kind)) ActKind (r .body) e (adding-made _ _ _ (r .body) [] (x .0) _ (room-at _ (next-room (λ x. took x []) (g .acts) (f .acts) _ _ here (fits .few-acts))) (x .1) refl)
-        ; adds = record
-            { count = a .count; house = a .house; only = a .only .1; order = o
-            ; rules = rw n at (a .rules)
-            ; clauses = rw n at (a .clauses)
-            ; wishes = rw n at (a .wishes)
-            ; acts = x .2
-            }
-        }
+      record {
+        file = withAct g (x .0);
+        says = later-is g (little (r .kind)) ActKind (r .body) e (adding-made _ _ _ (r .body) [] (x .0) _ (room-at _ (next-room (λ x. took x []) (g .acts) (f .acts) _ _ here (fits .few-acts))) (x .1) refl);
+        adds = record {
+          count = a .count;
+          house = a .house;
+          only = a .only .1;
+          order = o;
+          rules = rw n at (a .rules);
+          clauses = rw n at (a .clauses);
+          wishes = rw n at (a .wishes);
+          acts = x .2;
+        };
+      }
 
   next-file : Next g r rs f
   next-file = let k = next-of Ok (g .order) (f .order) _ _ (a .order) in next (k .0) (k .1) (k .2)
@@ -218,7 +230,7 @@ complete bs f a =
     let b = length-append (a .head .body) rest in
     let e = ap length (a .sequence) in
     let begun : Adds (headAlone (f .count, f .house)) (a .later) f = record
-          { count = refl; house = refl; only = a .only; order = a .order; rules = a .rules; clauses = a .clauses; wishes = a .wishes; acts = a .acts } in
+    { count = refl; house = refl; only = a .only; order = a .order; rules = a .rules; clauses = a .clauses; wishes = a .wishes; acts = a .acts } in
     decode-first bs (a .head .body) rest [] (little (a .head .kind)) (headAlone (f .count, f .house)) (a .short)
     (ap cut (a .sequence) ∙ cut-front (a .head) (a .framed .0) rest)
     (head-is (little (a .head .kind)) (a .head .body) (f .count, f .house) (a .first) (a .says))
@@ -233,6 +245,7 @@ reading bs r e = record { meaning = e; laws = laws r e; complete = λ f a. taken
     laws (Ok g) e = accepted bs (fileOf g) e
     laws (Err (Refused b)) e = tt
     laws (Err Memory) e = tt
+
     taken : (r : Result RuleFile ReadError) → Reads (decode bs) r → (f : FileModel) → decode bs ≡ Ok f → Takes f r
     taken (Ok g) e f h = cc
     taken (Err (Refused b)) e f h = let z : _≡_ {A = ℕ} 0 1 = cc in omega arith

@@ -74,7 +74,7 @@ fn head_fields(rt: LibcRuntime) -> Result<(), Fail> {
     Ok(())
 }
 
-// A field is tested as soon as it is read: these bodies end there.
+// A field is tested as soon as it is read, whatever comes after it.
 #[test]
 fn rule_fields(rt: LibcRuntime) -> Result<(), Fail> {
     let cases: [(&[u8], u8); 10] = [

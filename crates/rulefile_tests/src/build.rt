@@ -19,6 +19,12 @@ pub const ACT: u16 = 5;
 // In the place of a refusal's number: the file is read.
 pub const READ: u8 = 0;
 
+// A head with count 4 and an empty house sheet.
+const HEAD_ONLY: &[u8; 15] = b"\x0b\0\0\0\x01\0\x04\0\0\0\0\0\0\0\0";
+
+// The same head, and an undo.
+const HEAD_AND_UNDO: &[u8; 22] = b"\x0b\0\0\0\x01\0\x04\0\0\0\0\0\0\0\0\x03\0\0\0\x05\0\x04";
+
 // Adds a record with the right length.
 pub fn add_record(file: &mut Vec<u8>, kind: u16, body: &[u8]) -> Result<(), AllocError> {
     let length = body.len().wrapping_add(2).to_le_bytes();
@@ -131,15 +137,17 @@ pub fn check_file(heap: Global, bytes: &[u8], number: u8, at: u32) -> Result<(),
     check_eq(answer(heap, bytes)?, expected).note(format_args!("{size} bytes: {bytes:?}"))
 }
 
-// These bytes are answered so after a head with count 4, and also after an undo.
+// What begins with `start` and goes on with these bytes is answered by this number at the end of `start`.
+fn check_after(heap: Global, start: &[u8], at: u32, bytes: &[u8], number: u8) -> Result<(), Fail> {
+    let mut file = start.to_vec(heap)?;
+    file.extend_from_slice(bytes)?;
+    check_file(heap, file.as_slice(), number, at)
+}
+
+// These bytes are answered so after a head with count 4, and also after a head and an undo.
 pub fn check_later(heap: Global, bytes: &[u8], number: u8) -> Result<(), Fail> {
-    let mut file = head_alone(heap, 4)?;
-    file.extend_from_slice(bytes)?;
-    check_file(heap, file.as_slice(), number, 15)?;
-    let mut file = head_alone(heap, 4)?;
-    add_record(&mut file, ACT, &[4])?;
-    file.extend_from_slice(bytes)?;
-    check_file(heap, file.as_slice(), number, 22)
+    check_after(heap, HEAD_ONLY, 15, bytes, number)?;
+    check_after(heap, HEAD_AND_UNDO, 22, bytes, number)
 }
 
 // A record after the head is answered so.

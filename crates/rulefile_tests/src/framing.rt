@@ -2,6 +2,7 @@
 use crate::build::*;
 use std::test::*;
 
+// Faults of the first record are at 0.
 #[test]
 fn first_record(rt: LibcRuntime) -> Result<(), Fail> {
     let cases: [(&[u8], u8); 17] = [
@@ -29,6 +30,7 @@ fn first_record(rt: LibcRuntime) -> Result<(), Fail> {
     Ok(())
 }
 
+// A file may end after any record. Faults of a later record are at its own offset.
 #[test]
 fn later_record(rt: LibcRuntime) -> Result<(), Fail> {
     let cases: [(&[u8], u8); 18] = [
@@ -64,7 +66,7 @@ fn earlier_body_first(rt: LibcRuntime) -> Result<(), Fail> {
     check_later(rt.alloc(), &[2, 0, 0, 0, 5, 0, 0, 0, 0, 0, 0, 0], 17)
 }
 
-// A length of 1,024 is right by itself: the body is too long for its fields. 1,025 is refused.
+// A body of 1,022 bytes has the length 1,024. That passes, and another fault is found. A byte more is 12.
 #[test]
 fn length_1024_and_1025(rt: LibcRuntime) -> Result<(), Fail> {
     for (kind, n, number) in [

@@ -67,7 +67,7 @@ fn longest_file(heap: Global) -> Result<Vec<u8>, AllocError> {
     Ok(file)
 }
 
-// A byte more is 10, and a byte less cuts the last record.
+// A byte more is 10, before the byte is looked at. A byte less cuts the last record.
 #[test]
 fn file_32768_and_32769(rt: LibcRuntime) -> Result<(), Fail> {
     let mut file = longest_file(rt.alloc())?;
@@ -77,14 +77,4 @@ fn file_32768_and_32769(rt: LibcRuntime) -> Result<(), Fail> {
     check_file(rt.alloc(), file.as_slice(), 10, 0)?;
     file.truncate(32_767);
     check_file(rt.alloc(), file.as_slice(), 13, 32_734)
-}
-
-// The size of the file is tested before its bytes.
-#[test]
-fn size_first(rt: LibcRuntime) -> Result<(), Fail> {
-    let mut file = Vec::new(rt.alloc());
-    add_times(&mut file, 32_768, &[0])?;
-    check_file(rt.alloc(), file.as_slice(), 12, 0)?;
-    file.push(0)?;
-    check_file(rt.alloc(), file.as_slice(), 10, 0)
 }

@@ -1,14 +1,6 @@
-// The ends of each range: what is just inside is read, what is just outside is 18.
+// The ends of each range after the head: what is just inside is read, what is just outside is 18.
 use crate::build::*;
 use std::test::*;
-
-#[test]
-fn counts_of_marks(rt: LibcRuntime) -> Result<(), Fail> {
-    for (count, number) in [(0, 18), (1, READ), (64, READ), (65, 18), (255, 18)] {
-        check_head(rt.alloc(), &[count, 0, 0, 0, 0, 0, 0, 0, 0], number)?;
-    }
-    Ok(())
-}
 
 #[test]
 fn levels(rt: LibcRuntime) -> Result<(), Fail> {

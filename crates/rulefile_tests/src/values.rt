@@ -168,6 +168,20 @@ fn literals(rt: LibcRuntime) -> Result<(), Fail> {
     Ok(())
 }
 
+fn check_acts(acts: &[Act]) -> Result<(), Fail> {
+    let [
+        Act::Pin(pinned),
+        Act::Bar(barred),
+        Act::Strike(sheet),
+        Act::Undo,
+    ] = acts
+    else {
+        return Err(Fail::new("other acts"));
+    };
+    check_eq((*pinned, *barred), (255, 128))?;
+    check_eq(*sheet, 0x0200_0000_0000_0001)
+}
+
 // The mark of an act is the whole byte, and a sheet has its lowest marks in its first byte.
 #[test]
 fn acts(rt: LibcRuntime) -> Result<(), Fail> {
@@ -178,15 +192,7 @@ fn acts(rt: LibcRuntime) -> Result<(), Fail> {
         (ACT, &[4]),
     ];
     let file = accepted_of(rt.alloc(), 4, &records)?;
-    check(matches!(
-        file.acts.as_slice(),
-        [
-            Act::Pin(255),
-            Act::Bar(128),
-            Act::Strike(0x0200_0000_0000_0001),
-            Act::Undo
-        ]
-    ))
+    check_acts(file.acts.as_slice())
 }
 
 #[test]

@@ -33,12 +33,21 @@ fn file_of(heap: Global, low: u8, high: u8, times: u16, weight: i16) -> Result<R
 }
 
 // What the sheet {0} costs, from level 8 down.
-fn print_costs(rt: &LibcRuntime, low: u8, high: u8, times: u16, weight: i16) -> Result<(), AnyError> {
+fn print_costs(
+    rt: &LibcRuntime,
+    low: u8,
+    high: u8,
+    times: u16,
+    weight: i16,
+) -> Result<(), AnyError> {
     let heap = rt.alloc();
     let file = Rc::new(heap, file_of(heap, low, high, times, weight)?)?;
     let differ = try_costs(&file)?;
     let cost = Levels::new(file).cost(1);
-    print!(rt, "{times} wishes of weight {weight} at levels {low} to {high}:")?;
+    print!(
+        rt,
+        "{times} wishes of weight {weight} at levels {low} to {high}:"
+    )?;
     for under in 0..8u8 {
         let sum = cost.at(8 - under);
         print!(rt, " {sum}")?;

@@ -63,5 +63,6 @@ cases = record {
     first : (k : ℕ) → k < 1 → (d : RuleModel) → rule-holds 3 (getD budget k d) ≡ true
     first zero lt d = refl
     first (suc k) lt d = absurd (omega arith)
+
     above : (m : ℕ) → 2 < m → sum-at (wish-cost 2) two-levels m ≡ sum-at (wish-cost 1) two-levels m
     above m lt = rw (ne-eqb 2 m (omega arith), ne-eqb 1 m (omega arith))

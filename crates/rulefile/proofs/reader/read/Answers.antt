@@ -32,7 +32,7 @@ pub returns-in-Err-add : need.returns-in-Err-add
 returns-in-Err-add c =
     rw (c .located .ensures)
     (reading _ _ (read-fault (c .in-Err-add .fault) _ (c .in-Err-add .ensures tt)
-      (λ why e. c .loop-rest .inv .1 .2 ∙ records-refused (c .loop-rest .inv .1 .0) _ _ (c .loop-rest .rest .now) _ _ _ (some-left _ (c .loop-rest-test .ensures tt)) (c .loop-rest .inv .1 .1) (c .in-Ok-cut .ensures tt .value) e)))
+    (λ why e. c .loop-rest .inv .1 .2 ∙ records-refused (c .loop-rest .inv .1 .0) _ _ (c .loop-rest .rest .now) _ _ _ (some-left _ (c .loop-rest-test .ensures tt)) (c .loop-rest .inv .1 .1) (c .in-Ok-cut .ensures tt .value) e)))
 
 pub loop-rest-again : need.loop-rest-again
 loop-rest-again c =
