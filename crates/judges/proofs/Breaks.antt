@@ -1,8 +1,8 @@
 -- The first rule that does not hold.
-use mathlib.Core.Path.{_≡_, refl, sym, ap, subst, _∙_}
+use mathlib.Core.Path.{_≡_, refl, sym, ap, _∙_}
 use mathlib.Core.List.{List, [], _∷_, map}
-use mathlib.Core.Bool.{Bool, true, false, not, _&&_, _||_}
-use Prim.Native.Nat.{ℕ, zero, suc, _+_, _<_, _≤_}
+use mathlib.Core.Bool.{Bool, true, false, not}
+use Prim.Native.Nat.{ℕ, zero, suc, _+_, _<_}
 use native.Mathlib.Omega.{arith}
 use lib.ListN.{length, getD}
 use borrow.Author.Count.{below-more}
@@ -10,9 +10,9 @@ use Rattle.std.specs.Of.Vec.{vec-items}
 use Rattle.std.proofs.shelf.Lists.{getD-map}
 use Rattle.std.proofs.shelf.Tests.{and-from, and-parts, or-left, or-right, or-from}
 use Rattle.rulefile.specs.declared.records.Rule.{Rule}
-use Rattle.rulefile.specs.Model.{ConstraintModel, RuleModel, constraintOf, ruleOf}
+use Rattle.rulefile.specs.Model.{RuleModel, constraintOf, ruleOf}
 use Rattle.sheets.specs.Lists.{all}
-use Rattle.judges.specs.Programs.{satisfied, rule-holds, Satisfies}
+use Rattle.judges.specs.Programs.{satisfied, rule-holds}
 use Rattle.judges.specs.Verdicts.{First-broken}
 
 pub all-from : {X : Type 0} (p : X → Bool) (xs : List X) → ((k : ℕ) → k < length xs → (d : X) → p (getD xs k d) ≡ true) → all p xs ≡ true

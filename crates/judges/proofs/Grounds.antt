@@ -1,9 +1,9 @@
 -- The closure is one, it is found, and a verdict says one thing.
-use mathlib.Core.Path.{_≡_, refl, sym, ap, subst, _∙_}
-use mathlib.Core.Logic.{_⊎_, inl, inr, ⊎-elim}
-use mathlib.Core.List.{List, [], _∷_, map}
-use mathlib.Core.Bool.{Bool, true, false, not, cond, _&&_, _||_}
-use Prim.Native.Nat.{ℕ, zero, suc, _+_, _-_, _^_, _<_, _≤_}
+use mathlib.Core.Path.{_≡_, refl, ap, subst, _∙_}
+use mathlib.Core.Logic.{_⊎_, ⊎-elim}
+use mathlib.Core.List.{List, [], _∷_}
+use mathlib.Core.Bool.{Bool, true, false, not, cond, _||_}
+use Prim.Native.Nat.{ℕ, zero, suc, _+_, _-_, _<_}
 use native.Mathlib.Omega.{arith}
 use lib.Dec.{eqb}
 use lib.ListN.{length, getD}
@@ -13,7 +13,7 @@ use Rattle.std.proofs.shelf.Tests.{both-ways, cases-bool, cases-order, and-from
 use Rattle.std.proofs.shelf.Ways.{decides-by-and}
 use Rattle.judges.specs.declared.verdicts.Verdict.{Verdict}
 use Rattle.judges.specs.declared.verdicts.Verdict.the-variants.{Lawful, Broken, Ungrounded}
-use Rattle.sheets.specs.Sheets.{has, Subset}
+use Rattle.sheets.specs.Sheets.{has}
 use Rattle.rulefile.specs.Model.{RuleModel}
 use Rattle.sheets.specs.Lists.{all}
 use Rattle.judges.specs.Programs.{rule-holds, Satisfies, Horn, reduct, reaches, Obeys, Closure, Answer-set}

@@ -7,9 +7,9 @@ use native.Mathlib.Omega.{arith}
 use lib.Dec.{ltb}
 use Rattle.std.proofs.shelf.Tests.{both-ways, or-cases, or-parts, not-true, not-false, lt-ltb, ltb-true}
 use Rattle.sheets.specs.Lists.{all, any}
-use Rattle.sheets.specs.Sheets.{others, Part, Within, Marks-below}
+use Rattle.sheets.specs.Sheets.{others, Part, Within}
 use Rattle.sheets.specs.Literals.{held, holds}
-use Rattle.sheets.specs.Judging.{Judging, Judge-laws}
+use Rattle.sheets.specs.Judging.{Judge-laws}
 use Rattle.sheets.proofs.Bits.{below-marks, marks-below}
 use Rattle.sheets.proofs.Subsets.{subset-le}
 use Rattle.sheets.proofs.Parts.{full-others, within-itself}

@@ -1,8 +1,8 @@
 -- The laws of the book.
-use mathlib.Core.Path.{_≡_, refl, sym, ap, subst, _∙_}
+use mathlib.Core.Path.{_≡_, refl, ap, subst, _∙_}
 use mathlib.Core.Logic.{⊎-elim}
 use mathlib.Core.List.{List, [], _∷_}
-use mathlib.Core.Bool.{Bool, true, false, not, _&&_}
+use mathlib.Core.Bool.{true, false, not, _&&_}
 use Prim.Native.Nat.{ℕ, _-_, _^_, _<_, _≤_}
 use native.Mathlib.Omega.{arith}
 use lib.Dec.{leb, ltb}
@@ -13,16 +13,16 @@ use Rattle.std.specs.shelf.Lists.{All}
 use Rattle.std.proofs.shelf.Elements.{all-append}
 use Rattle.std.proofs.shelf.Tests.{both-ways, cases-bool, and-from, and-parts, and-cases, and-left, and-right, or-cases, or-parts, or-from, not-true, not-false, leb-true, le-leb, lt-leb, ltb-true}
 use Rattle.sheets.specs.Lists.{all, any}
-use Rattle.sheets.specs.Sheets.{has, others, Part, Within, Full, full, Marks-below}
+use Rattle.sheets.specs.Sheets.{has, others, Part, Within, full, Marks-below}
 use Rattle.sheets.specs.Literals.{held, holds}
-use Rattle.sheets.specs.Judging.{Judging, Judge-laws}
+use Rattle.sheets.specs.Judging.{Judge-laws}
 use Rattle.sheets.proofs.Bits.{has-and, has-first, below-marks}
 use Rattle.sheets.proofs.Subsets.{subset-le}
 use Rattle.sheets.proofs.Parts.{decides-full, within-full, within-itself}
 use Rattle.sheets.proofs.Held.{sure-holds, holds-possible}
 use Rattle.rulefile.specs.declared.constraints.Element.{Element}
 use Rattle.rulefile.specs.Model.{ConstraintModel, RuleModel, FileModel}
-use Rattle.rulefile.specs.Laws.{Constraint-below, Rule-below, Fits}
+use Rattle.rulefile.specs.Laws.{Rule-below, Fits}
 use Rattle.judges.specs.Programs.{weigh, at-most, satisfied, rule-holds, reduct-of-rule, reduct, Obeys, Answer-set}
 use Rattle.judges.specs.Books.{lawful, least, greatest, sure, hopeless, dead-rule, book-of}
 use Rattle.judges.proofs.Reached.{weigh-le, Heads-in, rule-to, heads-inside}

@@ -1,24 +1,22 @@
 -- The rounds, and the closure that they reach.
 use mathlib.Core.Path.{_≡_, refl, sym, ap, subst, _∙_}
-use mathlib.Core.Logic.{_⊎_, inl, inr, ⊎-elim}
+use mathlib.Core.Logic.{_⊎_, ⊎-elim}
 use mathlib.Core.List.{List, [], _∷_, _++_, map}
-use mathlib.Core.Bool.{Bool, true, false, not, cond, _&&_, _||_}
-use Prim.Native.Nat.{ℕ, zero, suc, _+_, _-_, _*_, _/_, _%_, _^_, _<_, _≤_}
-use native.Mathlib.Nat.{zero-add}
+use mathlib.Core.Bool.{Bool, true, false, not, cond, _&&_}
+use Prim.Native.Nat.{ℕ, _+_, _-_, _^_, _<_, _≤_}
 use native.Mathlib.Omega.{arith}
-use lib.Dec.{leb, eqb}
+use lib.Dec.{leb}
 use lib.Bits.{bitOr}
-use Rattle.std.specs.shelf.Lists.{All, kept-by, joined}
+use Rattle.std.specs.shelf.Lists.{All, kept-by}
 use Rattle.std.proofs.shelf.Elements.{all-append}
-use Rattle.std.proofs.shelf.Bits.{pow-below}
-use Rattle.std.proofs.shelf.Tests.{both-ways, and-from, and-parts, or-cases, or-left, or-right, cases-order, cases-bool, cases-lt, leb-true, le-leb, eqb-true, eqb-false}
+use Rattle.std.proofs.shelf.Tests.{both-ways, and-from, and-parts, cases-lt, leb-true, le-leb}
 use Rattle.sheets.specs.declared.literals.Literal.{Literal}
 use Rattle.rulefile.specs.declared.constraints.Element.{Element}
 use Rattle.sheets.specs.Sheets.{width, has, Subset}
 use Rattle.rulefile.specs.Model.{ConstraintModel, RuleModel}
 use Rattle.sheets.specs.Lists.{all}
 use Rattle.sheets.specs.Literals.{held, holds}
-use Rattle.judges.specs.Programs.{weigh, at-most, plain, Lower, Horn, lowered, reduct-of-rule, reduct, reaches, Obeys, Closure}
+use Rattle.judges.specs.Programs.{weigh, at-most, plain, Horn, lowered, reduct-of-rule, reduct, reaches, Obeys, Closure}
 use Rattle.judges.specs.Rounds.{supported, with-heads, fired, round}
 use Rattle.sheets.proofs.Bits.{has-none, has-high}
 use Rattle.sheets.proofs.Held.{held-wider}

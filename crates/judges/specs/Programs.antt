@@ -2,7 +2,7 @@
 -- as Ferraris and Lifschitz define them in "Weight Constraints as Nested Expressions".
 use mathlib.Core.Path.{_≡_}
 use mathlib.Core.List.{List, [], _∷_, map}
-use mathlib.Core.Bool.{Bool, true, false, not, cond, _&&_, _||_}
+use mathlib.Core.Bool.{Bool, true, not, cond, _&&_, _||_}
 use Prim.Native.Nat.{ℕ, _+_, _-_}
 use lib.Dec.{leb}
 use Rattle.std.specs.shelf.Lists.{All, kept-by, joined}

@@ -1,7 +1,6 @@
 -- What else is said of the definitions.
 use mathlib.Core.Path.{_≡_}
 use mathlib.Core.List.{List}
-use mathlib.Core.Bool.{true}
 use Prim.Native.Nat.{ℕ}
 use Rattle.std.specs.Orderings.{Decides}
 use Rattle.sheets.specs.declared.literals.Literal.{Literal}

@@ -2,15 +2,13 @@
 ghost use mathlib.Core.Path.{_≡_};
 ghost use mathlib.Core.Bool.{true, _&&_};
 ghost use mathlib.Core.List.{map};
-ghost use Prim.Native.Nat.{ℕ, _<_, _^_};
-ghost use lib.Bits.{bitOr};
-ghost use Rattle.std.specs.Of.Vec.{vec-items};
+ghost use Prim.Native.Nat.{_<_};
 ghost use Rattle.sheets.specs.Sheets.{Subset};
 ghost use Rattle.rulefile.specs.Model.{constraintOf, ruleOf};
 ghost use Rattle.sheets.specs.Lists.{all};
 ghost use Rattle.sheets.specs.Literals.{holds};
 ghost use Rattle.judges.specs.Programs.{plain, reduct, Closure};
-ghost use Rattle.judges.specs.Rounds.{supported, with-heads, fired, round};
+ghost use Rattle.judges.specs.Rounds.{supported, with-heads, round};
 use crate::sums::is_at_most;
 use crate::sums::sum;
 use rulefile::Constraint;
@@ -21,6 +19,8 @@ use sheets::Sheet;
 use sheets::has_mark;
 use sheets::with_mark;
 
+// The sum in the sheet is not above the high bound, and the plain elements reached with the "not" elements that hold in
+// the sheet weigh the low bound or more.
 fn is_supported(constraint: &Constraint, sheet: Sheet, reached: Sheet) -> bool
     ensures { λ r. ⌜ r ≡ supported sheet reached (constraintOf (now (constraint .entry))) ⌝ }
 {
@@ -28,6 +28,7 @@ fn is_supported(constraint: &Constraint, sheet: Sheet, reached: Sheet) -> bool
         && constraint.low <= sum(constraint, reached, sheet)
 }
 
+// The rule is not skipped, and its body is reached.
 fn has_support(body: &[Constraint], sheet: Sheet, reached: Sheet) -> bool
     ensures { λ r. ⌜ r ≡ all (supported sheet reached) (map constraintOf (now (body .entry))) ⌝ }
 {
@@ -46,6 +47,7 @@ fn is_picked(literal: Literal, sheet: Sheet) -> bool
     !literal.negated && has_mark(sheet, literal.mark)
 }
 
+// The marks reached, with each plain head mark that the sheet has.
 fn add_heads(elements: &[Element], sheet: Sheet, reached: Sheet) -> Sheet
     ensures { λ r. ⌜ r ≡ with-heads sheet (now (elements .entry)) reached ⌝ }
 {

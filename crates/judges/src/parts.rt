@@ -24,6 +24,7 @@ fn greatest_sum(constraint: &Constraint, part: PartSheet) -> u32
     sum(constraint, !part.absent(), part.present())
 }
 
+// The constraint holds in every sheet within, by its sums.
 fn is_sure(constraint: &Constraint, part: PartSheet) -> bool
     ensures { λ r. ⌜ r ≡ sure (part .present) (part .absent) (constraintOf (now (constraint .entry))) ⌝ }
 {
@@ -31,6 +32,7 @@ fn is_sure(constraint: &Constraint, part: PartSheet) -> bool
         && is_at_most(greatest_sum(constraint, part), constraint.high)
 }
 
+// The constraint holds in no sheet within, by its sums.
 fn is_hopeless(constraint: &Constraint, part: PartSheet) -> bool
     ensures { λ r. ⌜ r ≡ hopeless (part .present) (part .absent) (constraintOf (now (constraint .entry))) ⌝ }
 {
@@ -49,6 +51,7 @@ fn are_sure(body: &[Constraint], part: PartSheet) -> bool
     true
 }
 
+// The rule fails in every sheet within, by its sums.
 fn is_dead_rule(rule: &Rule, part: PartSheet) -> bool
     ensures { λ r. ⌜ r ≡ dead-rule (part .present) (part .absent) (ruleOf (now (rule .entry))) ⌝ }
 {

@@ -18,11 +18,11 @@ use Rattle.rulefile.specs.declared.refusals.Refusal.the-variants.{UnknownKind,
 use Rattle.rulefile.specs.declared.refusals.BadFile.{BadFile}
 use Rattle.rulefile.specs.declared.records.Kind.{Kind}
 use Rattle.rulefile.specs.declared.records.Kind.the-variants.{Head, Rule, Clause, Wish, Act as ActKind}
-use Rattle.rulefile.specs.Model.{RuleModel, WishModel, FileModel}
+use Rattle.rulefile.specs.Model.{WishModel, FileModel}
 use Rattle.rulefile.specs.Parser.{Parse, took, fails, Parser, after, _>>=_, parsed, within, little}
-use Rattle.rulefile.specs.Format.{headFields, headBody, ruleFields, ruleBody, clauseFields, clauseBody, wishFields, wishBody, actOf, actBody, kindOf, roomAt, adding, headAlone, withRule, withClause, withWish, withAct, firstBody, laterBody, first, later, whole, bad, orRefused, cut, records, decode}
+use Rattle.rulefile.specs.Format.{headFields, headBody, ruleFields, ruleBody, clauseFields, clauseBody, wishFields, wishBody, actOf, actBody, kindOf, adding, headAlone, withRule, withClause, withWish, withAct, firstBody, laterBody, first, later, whole, bad, orRefused, cut, records, decode}
 use Rattle.rulefile.specs.Laws.{RecordBytes, bytesOf, Framed, lengths, bodiesOf, Say, Literals-below, Rule-below, Fits, Accepted}
-use Rattle.rulefile.proofs.Sound.{after-took, wholly-ends, Gives, given, gives-rule, gives-clause, gives-wish, gives-head, Head-fits, Cut-off, cut-took}
+use Rattle.rulefile.proofs.Sound.{after-took, wholly-ends, given, gives-rule, gives-clause, gives-wish, gives-head, Head-fits, cut-took}
 
 -- ---- kinds
 

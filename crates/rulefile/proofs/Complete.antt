@@ -1,17 +1,16 @@
 -- A sequence of records that keeps the laws is accepted.
-use Prim.Native.Nat.{ℕ, zero, suc, _+_, _-_, _≤_, _<_}
-use mathlib.Core.Path.{_≡_, refl, sym, ap, subst, _∙_}
-use mathlib.Core.Bool.{Bool, true, false, cond, _&&_}
-use mathlib.Core.List.{List, [], _∷_, _++_, map, append-assoc, append-nil}
+use Prim.Native.Nat.{ℕ, _+_, _-_, _≤_, _<_}
+use mathlib.Core.Path.{_≡_, refl, sym, ap, _∙_}
+use mathlib.Core.List.{List, [], _∷_, _++_, map, append-assoc}
 use native.Mathlib.Omega.{arith}
-use lib.Dec.{leb, ltb, eqb}
+use lib.Dec.{leb}
 use lib.ListN.{length, take, drop, length-append}
 use Rattle.std.specs.shelf.Lists.{All, joined}
 use Rattle.std.specs.Vec.{made}
 use Rattle.std.specs.declared.result.Result.{Result}
 use Rattle.std.specs.declared.result.Result.the-variants.{Ok, Err}
-use Rattle.std.proofs.shelf.Lists.{length-map, length-drop, take-at, drop-at, take-all}
-use Rattle.std.proofs.shelf.Tests.{le-leb, le-ltb, lt-ltb, and-from, eq-eqb}
+use Rattle.std.proofs.shelf.Lists.{length-map, take-at, drop-at}
+use Rattle.std.proofs.shelf.Tests.{le-leb, lt-ltb, and-from}
 use Rattle.rulefile.specs.declared.refusals.Refusal.{Refusal}
 use Rattle.rulefile.specs.declared.refusals.ReadError.{ReadError}
 use Rattle.rulefile.specs.declared.refusals.ReadError.the-variants.{Refused, Memory}
@@ -19,14 +18,14 @@ use Rattle.rulefile.specs.declared.files.RuleFile.{RuleFile}
 use Rattle.rulefile.specs.declared.records.Kind.{Kind}
 use Rattle.rulefile.specs.declared.records.Kind.the-variants.{Head, Rule, Clause, Wish, Act as ActKind}
 use Rattle.rulefile.specs.Model.{FileModel}
-use Rattle.rulefile.specs.Parser.{Parse, took, fails, Parser, after, parsed, little}
+use Rattle.rulefile.specs.Parser.{Parse, took, after, little}
 use Rattle.rulefile.specs.Format.{headBody, ruleBody, clauseBody, wishBody, actBody, kindOf, roomAt, headAlone, withRule, withClause, withWish, withAct, firstBody, laterBody, first, later, cut, records, decode}
 use Rattle.rulefile.specs.Answers.{fileOf, Reads}
 use Rattle.rulefile.specs.Reading.{Takes, Reading}
 use Rattle.rulefile.specs.Laws.{RecordBytes, bytesOf, Framed, bodiesOf, Fits, Accepted}
 use Rattle.rulefile.proofs.Frames.{cut-made}
 use Rattle.rulefile.proofs.Drafts.{adding-made, decode-first, records-more}
-use Rattle.rulefile.proofs.Accepted.{numberOf, kind-number, Adds, accepted}
+use Rattle.rulefile.proofs.Accepted.{kind-number, Adds, accepted}
 
 -- ---- a record at the front of the bytes
 

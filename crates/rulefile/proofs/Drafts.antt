@@ -1,9 +1,9 @@
 -- A draft that grows by one record after another.
-use Prim.Native.Nat.{ℕ, zero, suc, _-_, _+_, _≤_, _<_}
+use Prim.Native.Nat.{ℕ, zero, suc, _-_, _≤_, _<_}
 use native.Mathlib.Omega.{arith}
 use Rattle.std.proofs.shelf.Tests.{lt-ltb, le-ltb, eqb-true, eqb-false}
 use mathlib.Core.Path.{_≡_, refl, sym, ap, _∙_}
-use mathlib.Core.List.{List, [], _∷_, _++_, map}
+use mathlib.Core.List.{List, [], _∷_, map}
 use lib.ListN.{length}
 use lib.Dec.{eqb}
 use mathlib.Core.Bool.{true, false}
@@ -22,7 +22,7 @@ use Rattle.rulefile.specs.Model.{FileModel}
 use Rattle.rulefile.specs.Parser.{Parse, Parser, took, fails}
 use Rattle.rulefile.specs.declared.refusals.BadFile.{BadFile}
 use Rattle.rulefile.specs.Format.{firstBody, first, later, cut, adding, roomAt, bad, records, decode}
-use Rattle.rulefile.specs.Answers.{parsedDraft, Faults, Parses, locatedAt, Reads}
+use Rattle.rulefile.specs.Answers.{parsedDraft, Faults, locatedAt, Reads}
 use Rattle.rulefile.specs.declared.refusals.Fault.{Fault}
 use Rattle.rulefile.specs.declared.refusals.Fault.the-variants.{Bad, Memory}
 

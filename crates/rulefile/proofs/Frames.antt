@@ -1,15 +1,15 @@
 -- A record that is cut off a file, or why none is.
-use Prim.Native.Nat.{ℕ, zero, suc, _+_, _-_, _*_, _≤_, _<_}
-use mathlib.Core.Path.{_≡_, refl, sym, ap, _∙_}
-use mathlib.Core.Bool.{Bool, true, false, cond, _&&_}
-use mathlib.Core.List.{List, [], _∷_}
+use Prim.Native.Nat.{ℕ, _+_, _-_, _≤_, _<_}
+use mathlib.Core.Path.{_≡_, sym, ap, _∙_}
+use mathlib.Core.Bool.{true, false, _&&_}
+use mathlib.Core.List.{List}
 use native.Mathlib.Omega.{arith}
 use lib.Dec.{leb}
-use lib.ListN.{length, take, drop, getD, length-drop}
+use lib.ListN.{length, take, drop, length-drop}
 use Rattle.std.proofs.shelf.Tests.{le-leb, lt-leb, leb-true, and-parts}
 use Rattle.std.proofs.shelf.Lists.{take-take, drop-take, drop-drop}
 use Rattle.rulefile.specs.declared.refusals.Refusal.the-variants.{RecordCut, LengthRange, LengthPastEnd}
-use Rattle.rulefile.specs.Parser.{Parse, took, fails, little}
+use Rattle.rulefile.specs.Parser.{took, fails, little}
 use Rattle.rulefile.specs.Format.{cut}
 
 pub two-up : (n : ℕ) → (leb 2 n && leb n 1024) ≡ true → 2 ≤ n

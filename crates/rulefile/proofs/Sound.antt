@@ -15,8 +15,8 @@ use Rattle.rulefile.specs.declared.refusals.Refusal.{Refusal}
 use Rattle.rulefile.specs.declared.refusals.Refusal.the-variants.{RecordCut, LengthRange, LengthPastEnd, MarkRange, OutOfRange}
 use Rattle.rulefile.specs.declared.constraints.Element.{Element}
 use Rattle.rulefile.specs.Ranges.{is-weight}
-use Rattle.rulefile.specs.Model.{ConstraintModel, RuleModel, WishModel, FileModel}
-use Rattle.rulefile.specs.Parser.{Parse, took, fails, Parser, after, pure, check, bytes, little, field, within, times, end, wholly}
+use Rattle.rulefile.specs.Model.{WishModel}
+use Rattle.rulefile.specs.Parser.{Parse, took, fails, Parser, after, check, bytes, little, field, within, times, end, wholly}
 use Rattle.rulefile.specs.Format.{literal, element, constraint, signedField, sheetField, headFields, headBody, ruleFields, ruleBody, clauseFields, clauseBody, wishFields, wishBody, cut}
 use Rattle.rulefile.specs.Laws.{RecordBytes, bytesOf, Framed, Literals-below, Constraint-below, Rule-below}
 

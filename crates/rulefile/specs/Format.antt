@@ -1,6 +1,6 @@
 -- The meaning of a rule file.
 use Prim.Native.Nat.{ℕ, zero, suc, _+_, _-_, _%_, _^_}
-use mathlib.Core.Bool.{Bool, true, false, cond, _&&_}
+use mathlib.Core.Bool.{cond, _&&_}
 use mathlib.Core.List.{List, [], _∷_, _++_}
 use lib.Dec.{leb, ltb, eqb}
 use lib.IntN.{ℤ, pos, negsuc}
@@ -21,7 +21,7 @@ use Rattle.rulefile.specs.declared.records.Kind.{Kind}
 use Rattle.rulefile.specs.declared.records.Kind.the-variants.{Head, Rule, Clause, Wish, Act as ActKind}
 use Rattle.rulefile.specs.Ranges.{is-weight}
 use Rattle.rulefile.specs.Model.{ConstraintModel, RuleModel, WishModel, FileModel}
-use Rattle.rulefile.specs.Parser.{Parse, took, fails, Parser, after, _>>=_, _>>_, pure, refuse, check, parsed, bytes, little, field, within, times, end, wholly}
+use Rattle.rulefile.specs.Parser.{Parse, took, fails, Parser, after, _>>=_, _>>_, pure, refuse, check, parsed, bytes, little, field, within, times, wholly}
 
 -- ---- fields
 

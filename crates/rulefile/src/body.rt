@@ -1,7 +1,6 @@
 // The fields of a record's body, read one after another.
-ghost use lib.Dec.{leb, ltb};
 ghost use mathlib.Core.Bool.{_&&_};
-ghost use mathlib.Core.List.{List, [], map};
+ghost use mathlib.Core.List.{[], map};
 ghost use mathlib.Core.Path.{_≡_};
 ghost use Rattle.std.specs.Of.Vec.{vec-items};
 ghost use Rattle.rulefile.specs.Ranges.{is-weight};

@@ -1,17 +1,11 @@
-use mathlib.Core.Path.{_≡_, refl, sym, ap, subst, _∙_}
-use mathlib.Core.Logic.{_⊎_, inl, inr}
-use mathlib.Core.Bool.{true, false}
-use mathlib.Core.List.{map}
+use mathlib.Core.Path.{_≡_, refl, ap, subst}
 use Prim.Native.Nat.{ℕ}
 use native.Mathlib.Omega.{arith}
-use Rattle.std.specs.Of.Vec.{vec-items}
-use Rattle.std.specs.declared.result.Result.{Result}
 use Rattle.std.specs.declared.result.Result.the-variants.{Ok, Err}
 use Rattle.std.proofs.shelf.Tests.{both-ways}
 use Rattle.sheets.specs.Sheets.{Marks-below}
-use Rattle.rulefile.specs.Model.{FileModel, ruleOf}
+use Rattle.rulefile.specs.Model.{FileModel}
 use Rattle.judges.specs.declared.verdicts.Verdict.{Verdict}
-use Rattle.judges.specs.declared.verdicts.Refusal.{Refusal}
 use Rattle.judges.specs.declared.verdicts.Refusal.the-variants.{MarkRange}
 use Rattle.judges.specs.Verdicts.{Says, Judged}
 use Rattle.judges.proofs.Grounds.{says-one}

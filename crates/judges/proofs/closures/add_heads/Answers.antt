@@ -1,11 +1,9 @@
-use mathlib.Core.Path.{_≡_, refl, sym, ap, _∙_}
-use Prim.Native.Nat.{ℕ, _<_, _^_}
+use mathlib.Core.Path.{refl, sym, _∙_}
+use Prim.Native.Nat.{_<_, _^_}
 use native.Mathlib.Omega.{arith}
-use lib.ListN.{getD}
 use Rattle.std.proofs.shelf.Lists.{at-drop-all, getD-default}
 use Rattle.std.proofs.shelf.Tests.{cond-true, cond-false, lt-ltb}
 use Rattle.sheets.specs.Sheets.{width}
-use Rattle.rulefile.specs.declared.constraints.Element.{Element}
 use Rattle.judges.specs.Rounds.{with-heads, added}
 use Rattle.judges.proofs.Steps.{carried}
 use Rattle.judges.proofs.Reached.{picked-low}

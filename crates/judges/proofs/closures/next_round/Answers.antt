@@ -1,13 +1,7 @@
-use mathlib.Core.Path.{_≡_, refl, sym, ap, _∙_}
-use mathlib.Core.Bool.{Bool, true, false, cond}
-use mathlib.Core.List.{List, map}
-use Prim.Native.Nat.{ℕ}
-use lib.ListN.{length}
-use Rattle.std.specs.Of.Vec.{vec-items}
+use mathlib.Core.Path.{refl, sym, ap, _∙_}
+use mathlib.Core.List.{map}
 use Rattle.std.proofs.shelf.Lists.{at-drop-all}
 use Rattle.std.proofs.shelf.Tests.{cond-true, cond-false}
-use Rattle.rulefile.specs.declared.records.Rule.{Rule}
-use Rattle.rulefile.specs.declared.constraints.Constraint.{Constraint}
 use Rattle.rulefile.specs.Model.{ruleOf, constraintOf}
 use Rattle.sheets.specs.Lists.{all}
 use Rattle.judges.specs.Rounds.{supported, with-heads, fired, round}

@@ -1,4 +1,4 @@
-use mathlib.Core.Path.{refl, sym, _∙_}
+use mathlib.Core.Path.{sym, _∙_}
 use Rattle.rulefile.specs.Model.{ruleOf}
 use Rattle.judges.specs.Books.{dead-rule}
 use Rattle.judges.proofs.Steps.{any-hit, any-miss, any-none}

@@ -1,10 +1,7 @@
-use mathlib.Core.Path.{_≡_, sym, ap, _∙_}
-use Prim.Native.Nat.{ℕ, _+_, _*_, _≤_, _<_}
+use mathlib.Core.Path.{sym}
 use native.Mathlib.Omega.{arith}
-use lib.ListN.{length}
 use Rattle.std.specs.Of.Vec.{vec-items}
 use Rattle.sheets.specs.Literals.{held}
-use Rattle.judges.specs.Programs.{weigh}
 use Rattle.judges.proofs.Steps.{weigh-hit, weigh-miss, weigh-none}
 use Rattle.judges.proofs.sums.sum.Needs as need
 use Rattle.judges.proofs.sums.sum.Needs.{then-is-held, else-is-held}

@@ -1,5 +1,5 @@
 use Rattle.rulefile.specs.Format.{actBody}
-use Rattle.rulefile.proofs.Steps.{passed-on, refused-on, fault-on}
+use Rattle.rulefile.proofs.Steps.{passed-on}
 use Rattle.rulefile.proofs.body.act.Needs as need
 
 pub returns-in-Break-code : need.returns-in-Break-code

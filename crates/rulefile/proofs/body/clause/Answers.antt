@@ -1,7 +1,7 @@
 use Rattle.rulefile.specs.Format.{clauseFields, clauseBody}
 use native.Mathlib.Omega.{arith}
 use Rattle.rulefile.proofs.Sound.{in-range, as-many}
-use Rattle.rulefile.proofs.Steps.{passed-on, refused-on, fault-on}
+use Rattle.rulefile.proofs.Steps.{refused-on, fault-on}
 use Rattle.rulefile.proofs.body.clause.Needs as need
 
 pub returns-in-Break-n : need.returns-in-Break-n

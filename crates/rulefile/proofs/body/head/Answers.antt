@@ -1,6 +1,6 @@
 use mathlib.Core.Path.{sym, _∙_}
 use Rattle.rulefile.specs.Format.{headFields, headBody}
-use Rattle.rulefile.proofs.Steps.{passed-on, refused-on, fault-on}
+use Rattle.rulefile.proofs.Steps.{passed-on}
 use Rattle.rulefile.proofs.body.head.Needs as need
 
 pub returns-in-Break-count : need.returns-in-Break-count

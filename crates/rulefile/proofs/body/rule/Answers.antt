@@ -4,7 +4,7 @@ use Rattle.rulefile.specs.Model.{constraintOf}
 use Rattle.rulefile.specs.Format.{ruleFields, ruleBody}
 use native.Mathlib.Omega.{arith}
 use Rattle.rulefile.proofs.Sound.{in-range, as-many}
-use Rattle.rulefile.proofs.Steps.{passed-on, refused-on, fault-on}
+use Rattle.rulefile.proofs.Steps.{refused-on, fault-on}
 use Rattle.rulefile.proofs.body.rule.Needs as need
 
 pub returns-in-Break-n : need.returns-in-Break-n

@@ -6,7 +6,7 @@ use mathlib.Core.Path.{sym, _∙_}
 use Rattle.rulefile.specs.Format.{wishFields, wishBody}
 use native.Mathlib.Omega.{arith}
 use Rattle.rulefile.proofs.Sound.{in-range, as-many}
-use Rattle.rulefile.proofs.Steps.{passed-on, refused-on, fault-on}
+use Rattle.rulefile.proofs.Steps.{refused-on, fault-on}
 use Rattle.rulefile.proofs.body.wish.Needs as need
 
 pub returns-in-Break-level : need.returns-in-Break-level

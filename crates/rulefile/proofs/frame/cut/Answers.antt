@@ -3,9 +3,9 @@ use native.Mathlib.Omega.{arith}
 use borrow.Author.Tests.{ltb-true, ltb-false}
 use mathlib.Core.Path.{sym, _∙_}
 use lib.ListN.{length, take, drop}
-use Rattle.std.proofs.shelf.Lists.{take-rest, length-drop, length-take}
+use Rattle.std.proofs.shelf.Lists.{take-rest, length-drop}
 use Rattle.rulefile.proofs.Fields.{little-4, little-4-2}
-use Rattle.rulefile.proofs.Frames.{cut-range, cut-past, cut-made, two-up}
+use Rattle.rulefile.proofs.Frames.{cut-range, cut-past, cut-made}
 use Rattle.rulefile.proofs.frame.cut.Needs as need
 
 pub returns-then-not-length-fits : need.returns-then-not-length-fits

@@ -1,6 +1,4 @@
-use mathlib.Core.Path.{refl, sym, ap, _∙_}
 use Rattle.rulefile.specs.Limits.{is-fit}
-use Rattle.rulefile.specs.Format.{fileOrHeadAlone}
 use Rattle.rulefile.proofs.reader.read_or_head_alone.Needs as need
 
 pub ghost-result : need.ghost-result

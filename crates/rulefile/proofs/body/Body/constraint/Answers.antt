@@ -1,7 +1,7 @@
 use Rattle.rulefile.specs.Format.{constraint}
 use native.Mathlib.Omega.{arith}
 use Rattle.rulefile.proofs.Sound.{in-range, as-many}
-use Rattle.rulefile.proofs.Steps.{passed-on, refused-on, fault-on}
+use Rattle.rulefile.proofs.Steps.{refused-on, fault-on}
 use Rattle.rulefile.proofs.body.Body.constraint.Needs as need
 
 pub returns-in-Break-low : need.returns-in-Break-low

@@ -1,4 +1,3 @@
-use native.Mathlib.Omega.{arith}
 use Rattle.std.proofs.shelf.Tests.{lt-ltb, le-ltb}
 use Rattle.rulefile.specs.Format.{literal}
 use Rattle.rulefile.proofs.Steps.{passed-on}

@@ -1,6 +1,5 @@
 use native.Mathlib.Omega.{arith}
-use mathlib.Core.Logic.{⊎-elim}
-use Rattle.std.proofs.shelf.Tests.{le-leb, lt-leb, and-left, and-right, and-from}
+use Rattle.std.proofs.shelf.Tests.{le-leb}
 use Rattle.std.proofs.shelf.Ways.{tells}
 use Rattle.rulefile.specs.Parser.{within}
 use Rattle.rulefile.proofs.Steps.{passed-on}
