@@ -67,16 +67,3 @@ module _ {X Y : Type 0} (p : Y → Bool) (f : X → Y) (xs : List X) (i : ℕ) (
 
 pub any-none : {X Y : Type 0} (p : Y → Bool) (f : X → Y) (xs : List X) (i : ℕ) → length xs ≤ i → any p (map f (drop i xs)) ≡ false
 any-none p f xs i le = at-drop-all (λ l. any p (map f l)) xs i le
-
-module _ {X : Type 0} (p : X → Bool) (xs : List X) (i : ℕ) (d : X) (lt : i < length xs) where
-  pub one-hit : p (getD xs i d) ≡ true → any p (drop i xs) ≡ true
-  one-hit t = at-drop-more (any p) xs i d lt ∙ ap (λ b. b || any p (drop (i + 1) xs)) t
-
-  pub one-miss : p (getD xs i d) ≡ false → any p (drop (i + 1) xs) ≡ any p (drop i xs)
-  one-miss t = sym (at-drop-more (any p) xs i d lt ∙ ap (λ b. b || any p (drop (i + 1) xs)) t)
-
-  pub each-hit : p (getD xs i d) ≡ true → all p (drop (i + 1) xs) ≡ all p (drop i xs)
-  each-hit t = sym (at-drop-more (all p) xs i d lt ∙ ap (λ b. b && all p (drop (i + 1) xs)) t)
-
-  pub each-miss : p (getD xs i d) ≡ false → all p (drop i xs) ≡ false
-  each-miss t = at-drop-more (all p) xs i d lt ∙ ap (λ b. b && all p (drop (i + 1) xs)) t

@@ -23,11 +23,6 @@ refused-on m p rest (Ok x) h e = absurd h
 refused-on m p rest (Err (Bad w)) h e = e ∙ ap fails (let z : w ≡ _ = cc in sym z)
 refused-on m p rest (Err Memory) h e = tt
 
-pub memory-on : {A B : Type 0} (m : B → A) (p : Parse A) (rest : List ℕ) (r : Result B Fault) → ErrBy r (λ e. e ≡ Memory) → Parses m p r rest
-memory-on m p rest (Ok x) h = absurd h
-memory-on m p rest (Err (Bad w)) h = let z : _≡_ {A = ℕ} 0 1 = cc in absurd (omega arith)
-memory-on m p rest (Err Memory) h = tt
-
 -- a fault goes out as it came: where the part refuses, so does the whole
 pub fault-on : {A B C : Type 0} {q : Parse C} (f : Fault) (m : B → A) (p : Parse A) (rest : List ℕ) (r : Result B Fault) → ErrBy r (λ e. e ≡ f) → Faults q f → ((why : Refusal) → q ≡ fails why → p ≡ fails why) → Parses m p r rest
 fault-on f m p rest (Ok x) h e g = absurd h
@@ -43,15 +38,6 @@ onto xs (fails why) = fails why
 onto-onto : {A : Type 0} (xs : List A) (x : A) (q : Parse (List A)) → onto xs (after q (λ ys rest. took (x ∷ ys) rest)) ≡ onto (xs ++ x ∷ []) q
 onto-onto xs x (took ys rest) = ap (λ zs. took zs rest) (sym (append-assoc xs (x ∷ []) ys))
 onto-onto xs x (fails why) = refl
-
-onto-none : {A : Type 0} (q : Parse (List A)) → onto [] q ≡ q
-onto-none (took ys rest) = refl
-onto-none (fails why) = refl
-
-pub times-none : {A : Type 0} (p : Parser A) (n : ℕ) (bs : List ℕ) (xs : List A) → xs ≡ [] → times n p bs ≡ onto xs (times (n - 0) p bs)
-times-none p n bs xs e =
-    let s : n - 0 ≡ n = omega arith in
-    rw (e, s) (sym (onto-none (times n p bs)))
 
 pub times-more : {A : Type 0} {whole : Parse (List A)} (p : Parser A) (n i : ℕ) (xs ys : List A) (x : A) (bs cs : List ℕ) → i < n → whole ≡ onto xs (times (n - i) p bs) → p bs ≡ took x cs → ys ≡ xs ++ x ∷ [] → whole ≡ onto ys (times (n - (i + 1)) p cs)
 unfolding times

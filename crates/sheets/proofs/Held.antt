@@ -5,9 +5,9 @@ use mathlib.Core.Bool.{Bool, true, false, not, cond}
 use Prim.Native.Nat.{ℕ}
 use Rattle.std.proofs.shelf.Tests.{both-ways, cases-bool, not-true}
 use Rattle.sheets.specs.declared.literals.Literal.{Literal}
-use Rattle.sheets.specs.Sheets.{has, others, Subset, Part, Within, Full}
+use Rattle.sheets.specs.Sheets.{has, others, Subset, Part, Within}
 use Rattle.sheets.specs.Literals.{held, Holds}
-use Rattle.sheets.proofs.Parts.{subset-others, full-others}
+use Rattle.sheets.proofs.Parts.{subset-others}
 
 -- with more marks there, and fewer among which "not" looks, no less is held
 pub held-wider : (x x′ y y′ : ℕ) → Subset x x′ → Subset y′ y → (l : Literal) → held x y l ≡ true → held x′ y′ l ≡ true
@@ -28,11 +28,3 @@ module _ (p a z : ℕ) (part : Part p a) (within : Within p a z) where
 
   pub holds-possible : (l : Literal) → Holds z l → held (others a) p l ≡ true
   holds-possible = held-wider z (others a) z p not-absent (within .all)
-
--- at a full part-sheet both say what holds in its sheet
-module _ (p a : ℕ) (part : Part p a) (every : Full p a) where
-  pub full-sure : (l : Literal) → held p (others a) l ≡ held p p l
-  full-sure l = ap (λ q. held p q l) (full-others p a part every)
-
-  pub full-possible : (l : Literal) → held (others a) p l ≡ held p p l
-  full-possible l = ap (λ q. held q p l) (full-others p a part every)
