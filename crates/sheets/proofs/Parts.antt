@@ -8,7 +8,7 @@ use lib.Bits.{bitAnd, bitOr, and-lt, or-lt}
 use lib.Pow.{ones-lt}
 use Rattle.std.specs.Orderings.{Decides}
 use Rattle.std.proofs.shelf.Bits.{pow-pos}
-use Rattle.std.proofs.shelf.Tests.{both-ways, cases-bool, cases-lt, eqb-true, eq-eqb, and-left, and-right, or-cases, or-left, or-right}
+use Rattle.std.proofs.shelf.Tests.{both-ways, cases-bool, cases-lt, eqb-true, eq-eqb, and-parts, and-left, and-right, or-cases, or-left, or-right}
 use Rattle.sheets.specs.Sheets.{width, has, others, Subset, Apart, Part, Within, Full, full}
 use Rattle.sheets.proofs.Bits.{has-none, has-high, has-and, has-or, has-first, has-complement, same-marks}
 
@@ -58,6 +58,18 @@ subset-others y z p q h i t = ⊎-elim
     (λ lt. has-others y p i lt ∙ ap not (apart-turned y z h i t))
     (λ from. absurd (both-ways (has z i) (has-high width z i q from) t))
     (cases-lt i width)
+
+-- ---- the marks that a sheet has, and those that it lacks, among the decided ones
+
+module _ (d z : ℕ) (decided : d < 2 ^ width) (word : z < 2 ^ width) where
+  pub deciding-apart : Apart (bitAnd z d) (bitAnd (others z) d)
+  deciding-apart i t =
+      let there = and-parts (has z i) (has d i) (sym (has-and z d i) ∙ t) in
+      has-and (others z) d i ∙ and-left (has (others z) i) (has d i) (others-apart z word i (there .0))
+
+  pub deciding-disjoint : bitAnd (bitAnd z d) (bitAnd (others z) d) ≡ 0
+  deciding-disjoint = and-from-apart width (bitAnd z d) (bitAnd (others z) d)
+      (and-lt width z d word decided) (and-lt width (others z) d (others-word z word) decided) deciding-apart
 
 -- ---- full part-sheets
 

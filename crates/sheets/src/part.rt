@@ -37,6 +37,17 @@ impl PartSheet {
         }
     }
 
+    // The part-sheet that decides these marks: present are those of them in `present`, and absent the others.
+    pub fn deciding(decided: Sheet, present: Sheet) -> PartSheet
+        ensures present { λ r. ⌜ r .present ≡ bitAnd present decided ⌝ }
+        ensures absent { λ r. ⌜ r .absent ≡ bitAnd (others present) decided ⌝ }
+    {
+        PartSheet {
+            present: present & decided,
+            absent: !present & decided,
+        }
+    }
+
     // The marks that are present.
     pub fn present(self) -> Sheet
         ensures { λ r. ⌜ r ≡ self .present ⌝ }

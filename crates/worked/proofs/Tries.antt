@@ -17,6 +17,7 @@ use Rattle.judges.specs.Verdicts.{First-broken, First-ungrounded}
 use Rattle.judges.proofs.Grounds.{lawful-yes, lawful-from, obeyed}
 use Rattle.judges.proofs.Laws.{inside}
 use Rattle.scales.specs.Wishes.{wish-cost, sum-at}
+use Rattle.orders.specs.Searches.{present-at, absent-at, none, more}
 use Rattle.worked.specs.Cases.{at-most-one, each-other, if-missing, if-not-missing, budget, two-levels, Cases-stand}
 
 -- nothing is in the closure, and mark 0 is in the sheet
@@ -41,7 +42,7 @@ missing z a = go z (marks-below 1 z (inside z 1 if-missing ((((omega arith), tt)
     go (suc (suc y)) lt a = omega arith
 
 pub cases : Cases-stand
-unfolding lawful has
+unfolding lawful has present-at absent-at
 cases = record {
   none-empty = lawful-yes [] 0 refl;
   none-zero = ungrounded-zero [] 1 refl refl refl;
@@ -58,6 +59,7 @@ cases = record {
   budget-broken = record { within = omega arith; fails = λ d. refl; before = first };
   levels-apart = record { level = 2; used = refl; less = omega (arith, ints); same = above };
   levels-cheaper = refl;
+  search-steps = more refl (more refl (more refl none));
 }
   where
     first : (k : ℕ) → k < 1 → (d : RuleModel) → rule-holds 3 (getD budget k d) ≡ true

@@ -6,12 +6,20 @@ use Prim.Native.Nat.{ℕ, _+_, _^_}
 use lib.IntN.{pos}
 use Rattle.std.specs.declared.option.Option.the-variants.{Some, None}
 use Rattle.rulefile.specs.declared.constraints.Element.{Element}
-use Rattle.rulefile.specs.Model.{ConstraintModel, RuleModel, WishModel}
+use Rattle.sheets.specs.Scaling.{Scaling, first-then}
+use Rattle.rulefile.specs.Model.{ConstraintModel, RuleModel, WishModel, FileModel}
+use Rattle.rulefile.specs.Format.{headAlone}
 use Rattle.judges.specs.declared.verdicts.Verdict.the-variants.{Lawful, Broken, Ungrounded}
 use Rattle.judges.specs.Programs.{Answer-set}
 use Rattle.judges.specs.Verdicts.{Says}
 use Rattle.scales.specs.Wishes.{Dominates}
-use Rattle.scales.specs.Levels.{cheaper}
+use Rattle.scales.specs.declared.cost.LevelCost.{LevelCost}
+use Rattle.scales.specs.Levels.{levels-of, cheaper}
+use Rattle.scales.specs.Distances.{distance-of}
+use Rattle.judges.specs.Books.{book-of}
+use Rattle.orders.specs.declared.search.Search.{Search}
+use Rattle.orders.specs.Acts.{under}
+use Rattle.orders.specs.Searches.{start, Steps}
 
 -- the sheet of these marks, each named once
 abbrev pub sheet : List ℕ → ℕ
@@ -70,6 +78,17 @@ two-levels =
     ∷ record { level = 1; weight = pos 100; literals = record { mark = 1; negated = false } ∷ [] }
     ∷ []
 
+-- a head alone with count 1 and an empty house sheet, and what its sheets cost by levels and then distance
+abbrev pub alone : FileModel
+alone = headAlone (1, 0)
+
+abbrev pub engine-scale : Scaling (LevelCost × ℕ)
+engine-scale = first-then (levels-of (alone .wishes)) (distance-of (alone .house))
+
+-- the end of a search that holds {}
+abbrev pub settled-empty : Search
+settled-empty = record { decided = 0; present = 0; held = Some (sheet []); finished = true }
+
 pub record Cases-stand : Type 0 where
   -- with no rules, {} is lawful and {0} ungrounded
   pub none-empty : Says [] (sheet []) Lawful
@@ -93,3 +112,5 @@ pub record Cases-stand : Type 0 where
   -- weight 1 at level 2 costs more than 100 at level 1
   pub levels-apart : Dominates two-levels (sheet (1 ∷ [])) (sheet (0 ∷ []))
   pub levels-cheaper : cheaper two-levels (sheet (1 ∷ [])) (sheet (0 ∷ [])) ≡ true
+  -- count 1, no rules, no acts: a search takes three steps, and settles on {}
+  pub search-steps : Steps (under (book-of alone) []) engine-scale start 3 settled-empty

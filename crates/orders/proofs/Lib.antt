@@ -1,0 +1,13 @@
+pub mod Dockets
+pub mod Under
+pub mod Powers
+pub mod Dismissals
+pub mod Decided
+pub mod Walks
+pub mod Remaining
+pub mod Found
+pub mod Falls
+pub mod Visits
+pub mod Runs
+pub mod Kept
+pub mod Conducted

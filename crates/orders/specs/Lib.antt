@@ -1,0 +1,12 @@
+pub mod Numbers
+pub mod Acts
+pub mod Dockets
+pub mod Searches
+pub mod Places
+pub mod Best
+pub mod Calls
+pub mod Models
+pub mod Stages
+pub mod Logs
+pub mod Turns
+pub mod Theorems

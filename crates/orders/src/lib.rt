@@ -1,0 +1,36 @@
+// Orders: the acts that sheets are held to, and the search for the cheapest sheet that keeps them.
+mod acts;
+mod calls;
+mod docket;
+mod layer;
+mod logs;
+mod marking;
+mod search;
+mod seeking;
+mod settled;
+mod stage;
+mod standing;
+mod steps;
+mod theorems;
+mod turns;
+
+pub use acts::Act;
+pub use acts::ActDebug;
+pub use acts::ActPartialEq;
+pub use acts::Refusal;
+pub use acts::RefusalDebug;
+pub use acts::RefusalPartialEq;
+pub use calls::Answer;
+pub use calls::Call;
+pub use calls::CallDebug;
+pub use calls::CallPartialEq;
+pub use calls::Event;
+pub use calls::Progress;
+pub use layer::Acts;
+pub use layer::ActsJudge;
+pub use logs::conduct;
+pub use marking::Marking;
+pub use seeking::Seeking;
+pub use settled::Settled;
+pub use theorems::search_ends;
+pub use theorems::search_in_order;
