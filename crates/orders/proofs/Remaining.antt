@@ -3,6 +3,7 @@ use mathlib.Core.Path.{_≡_, refl, sym, ap, ap₂, subst, _∙_}
 use mathlib.Core.Logic.{⊎-elim}
 use mathlib.Core.Bool.{Bool, true, false, not, cond}
 use Prim.Native.Nat.{ℕ, zero, suc, _+_, _-_, _*_, _^_, _<_, _≤_}
+use native.Mathlib.Nat.{pow-succ'}
 use native.Mathlib.Numerals.{add-one}
 use native.Mathlib.Omega.{arith}
 use Rattle.std.specs.declared.option.Option.{Option}
@@ -15,7 +16,7 @@ use Rattle.sheets.specs.Scaling.{Scaling}
 use Rattle.sheets.proofs.Bits.{has-plus-at}
 use Rattle.orders.specs.declared.search.Search.{Search}
 use Rattle.orders.specs.Searches.{start, dismissed, stepped, Steps, none, more}
-use Rattle.orders.proofs.Powers.{two-suc, has-plus, has-minus}
+use Rattle.orders.proofs.Powers.{has-plus, has-minus}
 use Rattle.orders.proofs.Dismissals.{turned}
 use Rattle.orders.proofs.Walks.{deeper, step-cases}
 
@@ -25,11 +26,11 @@ size d = 2 ^ suc d - 1
 
 size-pos : (d : ℕ) → 0 < size d
 unfolding size
-size-pos d = omega (arith, two-suc d, pow-pos d)
+size-pos d = omega (arith, pow-succ' 2 d, pow-pos d)
 
 size-suc : (d : ℕ) → size (suc d) ≡ 1 + 2 * size d
 unfolding size
-size-suc d = omega (arith, two-suc (suc d), two-suc d, pow-pos d)
+size-suc d = omega (arith, pow-succ' 2 (suc d), pow-succ' 2 d, pow-pos d)
 
 -- of n marks, the places after the one that decides k marks and after all that decide more with it
 pub after : ℕ → ℕ → ℕ → ℕ
