@@ -1,5 +1,7 @@
 // Conducts orders over tables and numbers by long lists of calls, and holds every answer to rules of the program's own:
 // the docket kept as a plain list, and the best sheet found by going through all of them.
+#![tactic(auto)]
+
 mod brute;
 mod follow;
 mod ledger;

@@ -1,4 +1,6 @@
 // Which sheets are lawful: the book, the printer's list, and the verdict.
+#![tactic(auto)]
+
 mod answers;
 mod book;
 mod closures;

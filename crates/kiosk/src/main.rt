@@ -1,4 +1,6 @@
 // Writes the report on a rule file that comes on standard input to standard output.
+#![tactic(auto)]
+
 use anyhow::anyhow;
 use report::{LEAST_BUFFER, report};
 use rulefile::input_limit;

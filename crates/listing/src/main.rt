@@ -1,4 +1,6 @@
 // Lists a rule file that comes on standard input, in words.
+#![tactic(auto)]
+
 mod house;
 #[cfg(test)]
 mod tests;

@@ -1,4 +1,6 @@
 // Orders: the acts that sheets are held to, and the search for the cheapest sheet that keeps them.
+#![tactic(auto)]
+
 mod acts;
 mod calls;
 mod docket;

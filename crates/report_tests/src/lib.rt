@@ -1,4 +1,6 @@
 // Tests of the report: its lines, its length, and what it does with the buffer.
+#![tactic(auto)]
+
 #[cfg(test)]
 mod acts;
 #[cfg(test)]

@@ -2,8 +2,8 @@
 ghost use Rattle.std.specs.Prelude.{◌≡◌, ◌&&◌, [], map, vec_items};
 ghost use Rattle.rulefile.specs.Ranges.{is_weight};
 ghost use Rattle.rulefile.specs.Model.{constraint_of, rule_of, clause_of, wish_of};
-ghost use Rattle.rulefile.specs.Parser.{field, within as within-spec, times, end as end-spec, parsed};
-ghost use Rattle.rulefile.specs.Format.{literal as literal-spec, element as element-spec, constraint as constraint-spec, high_of, act_of, signed_field, sheet_field, head_body, rule_body, clause_body, wish_body, act_body};
+ghost use Rattle.rulefile.specs.Parser.{field, within as within_spec, times, end as end_spec, parsed};
+ghost use Rattle.rulefile.specs.Format.{literal as literal_spec, element as element_spec, constraint as constraint_spec, high_of, act_of, signed_field, sheet_field, head_body, rule_body, clause_body, wish_body, act_body};
 ghost use Rattle.rulefile.specs.Answers.{Parses};
 
 use crate::constraints::{Constraint, Element};
@@ -75,7 +75,7 @@ impl<'a> Body<'a> {
 
     // A one-byte number from `low` to `high`.
     pub(crate) fn within(&mut self, low: u8, high: u8) -> Result<u8, Refusal>
-        ensures { within-spec low high self.old.rest.now ≡ parsed result self.new.rest.now }
+        ensures { within_spec low high self.old.rest.now ≡ parsed result self.new.rest.now }
     {
         let n = self.byte()?;
         if n < low || n > high {
@@ -86,7 +86,7 @@ impl<'a> Body<'a> {
 
     // A mark below the count, or "not" such a mark.
     pub(crate) fn literal(&mut self, count: u8) -> Result<Literal, Refusal>
-        ensures { literal-spec count self.old.rest.now ≡ parsed result self.new.rest.now }
+        ensures { literal_spec count self.old.rest.now ≡ parsed result self.new.rest.now }
     {
         let b = self.byte()?;
         let mark = b % 128;
@@ -100,7 +100,7 @@ impl<'a> Body<'a> {
     }
 
     pub(crate) fn element(&mut self, count: u8) -> Result<Element, Refusal>
-        ensures { element-spec count self.old.rest.now ≡ parsed result self.new.rest.now }
+        ensures { element_spec count self.old.rest.now ≡ parsed result self.new.rest.now }
     {
         let literal = self.literal(count)?;
         let weight = self.two_bytes()?;
@@ -108,7 +108,7 @@ impl<'a> Body<'a> {
     }
 
     pub(crate) fn literals(&mut self, heap: Global, count: u8, n: u8) -> Result<Vec<Literal>, Fault>
-        ensures { Parses vec_items (times n (literal-spec count) self.old.rest.now) result self.new.rest.now }
+        ensures { Parses vec_items (times n (literal_spec count) self.old.rest.now) result self.new.rest.now }
     {
         let mut all = Vec::new(heap);
         for _i in 0..n {
@@ -118,7 +118,7 @@ impl<'a> Body<'a> {
     }
 
     pub(crate) fn elements(&mut self, heap: Global, count: u8, n: u8) -> Result<Vec<Element>, Fault>
-        ensures { Parses vec_items (times n (element-spec count) self.old.rest.now) result self.new.rest.now }
+        ensures { Parses vec_items (times n (element_spec count) self.old.rest.now) result self.new.rest.now }
     {
         let mut all = Vec::new(heap);
         for _i in 0..n {
@@ -128,7 +128,7 @@ impl<'a> Body<'a> {
     }
 
     pub(crate) fn constraint(&mut self, heap: Global, count: u8) -> Result<Constraint, Fault>
-        ensures { Parses constraint_of (constraint-spec count self.old.rest.now) result self.new.rest.now }
+        ensures { Parses constraint_of (constraint_spec count self.old.rest.now) result self.new.rest.now }
     {
         let low = self.four_bytes()?;
         let top = self.four_bytes()?;
@@ -147,7 +147,7 @@ impl<'a> Body<'a> {
         count: u8,
         n: u8,
     ) -> Result<Vec<Constraint>, Fault>
-        ensures { Parses (λ v. map constraint_of v.items) (times n (constraint-spec count) self.old.rest.now) result self.new.rest.now }
+        ensures { Parses (λ v. map constraint_of v.items) (times n (constraint_spec count) self.old.rest.now) result self.new.rest.now }
     {
         let mut all = Vec::new(heap);
         for _i in 0..n {
@@ -170,7 +170,7 @@ impl<'a> Body<'a> {
 
     // Nothing is left.
     pub(crate) fn end(&self) -> Result<(), Refusal>
-        ensures { end-spec self.now.rest.now ≡ parsed result [] }
+        ensures { end_spec self.now.rest.now ≡ parsed result [] }
     {
         if self.rest.is_empty() {
             Ok(())

@@ -1,4 +1,6 @@
 // The reader of rule files: their types, their refusals, and `read`.
+#![tactic(auto)]
+
 mod body;
 mod constraints;
 mod files;

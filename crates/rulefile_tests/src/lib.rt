@@ -1,4 +1,6 @@
 // Tests of the reader of rule files.
+#![tactic(auto)]
+
 #[cfg(test)]
 mod bodies;
 #[cfg(test)]

@@ -1,4 +1,6 @@
 // What a sheet costs: the wishes of a file, level by level, and the distance from the house sheet.
+#![tactic(auto)]
+
 mod cost;
 mod distance;
 mod levels;

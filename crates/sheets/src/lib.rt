@@ -1,4 +1,6 @@
 // Marks, sheets and part-sheets, what a literal says of a sheet, and the judges and scales of sheets.
+#![tactic(auto)]
+
 mod both;
 mod first_then;
 mod judge;

@@ -4,6 +4,8 @@
 // data/names.txt has the names. NAME.bin is a rule file, and NAME.out is the report that the engine must give of it. The
 // report of a refused file is its refusal alone. A line ends in ` DIFFERS` where the reader refuses and the report does
 // not, or where the report has a refusal and the reader does not answer the same.
+#![tactic(auto)]
+
 mod books;
 mod costs;
 mod extremes;

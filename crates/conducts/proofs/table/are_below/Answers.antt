@@ -5,14 +5,14 @@ use Rattle.sheets.proofs.Lists.{all_passes, all_fails}
 use Rattle.conducts.specs.Tables.{is_below}
 use Rattle.conducts.proofs.table.are_below.Goals as goal
 
-pub returns-then-not-within-count : goal.returns-then-not-within-count
-returns-then-not-within-count c =
-    sym (all_fails (is_below c.args.count) c.args.listed.now c.loop-sheet.sheet-index _ c.loop-sheet-test.true (sym c.if-not-within-count.ensures.value))
+pub returns-then-not-within_count : goal.returns-then-not-within_count
+returns-then-not-within_count c =
+    sym (all_fails (is_below c.args.count) c.args.listed.now c.loop-sheet.sheet-index _ c.loop-sheet-test.true (sym c.if-not-within_count.ensures.value))
     ∙ c.loop-sheet.invariant
 
 pub loop-sheet-preserved : goal.loop-sheet-preserved
 loop-sheet-preserved c =
-    all_passes (is_below c.args.count) c.args.listed.now c.loop-sheet.sheet-index _ c.loop-sheet-test.true (sym c.if-not-within-count.ensures.value)
+    all_passes (is_below c.args.count) c.args.listed.now c.loop-sheet.sheet-index _ c.loop-sheet-test.true (sym c.if-not-within_count.ensures.value)
     ∙ c.loop-sheet.invariant
 
 pub returns : goal.returns

@@ -8,14 +8,14 @@ loop-reached-init c = underway_none c.args.sheet (map rule_of c.args.rules.now)
 
 pub loop-reached-smaller : goal.loop-reached-smaller
 loop-reached-smaller c =
-    underway_less c.args.sheet (map rule_of c.args.rules.now) c.loop-reached.reached c.next-round-next.result c.next-round-next.ensures c.if-next-reached.false c.loop-reached.invariant
+    underway_less c.args.sheet (map rule_of c.args.rules.now) c.loop-reached.reached c.next_round-next.result c.next_round-next.ensures c.if-next-reached.false c.loop-reached.invariant
 
 pub loop-reached-preserved : goal.loop-reached-preserved
 loop-reached-preserved c =
-    underway_more c.args.sheet (map rule_of c.args.rules.now) c.loop-reached.reached c.next-round-next.result c.next-round-next.ensures c.loop-reached.invariant
+    underway_more c.args.sheet (map rule_of c.args.rules.now) c.loop-reached.reached c.next_round-next.result c.next_round-next.ensures c.loop-reached.invariant
 
 pub returns : goal.returns
 returns c = record {
-  closes = underway_closure c.args.sheet (map rule_of c.args.rules.now) c.loop-reached.reached c.next-round-next.result c.next-round-next.ensures c.if-next-reached.true c.loop-reached.invariant;
+  closes = underway_closure c.args.sheet (map rule_of c.args.rules.now) c.loop-reached.reached c.next_round-next.result c.next_round-next.ensures c.if-next-reached.true c.loop-reached.invariant;
   within = c.loop-reached.invariant.inside;
 }

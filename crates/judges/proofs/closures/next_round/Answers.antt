@@ -6,19 +6,19 @@ use Rattle.sheets.specs.Lists.{all}
 use Rattle.judges.specs.Rounds.{supported, with_heads, fired, round}
 use Rattle.judges.proofs.Steps.{carried}
 use Rattle.judges.proofs.closures.next_round.Goals as goal
-use Rattle.judges.proofs.closures.next_round.Goals.{then-has-support, else-has-support}
+use Rattle.judges.proofs.closures.next_round.Goals.{then-has_support, else-has_support}
 
 pub loop-rule-preserved : goal.loop-rule-preserved
 loop-rule-preserved c =
     carried (λ rs. round c.args.sheet (map rule_of rs)) (λ r. fired c.args.sheet (rule_of r)) (λ _ _ _. refl) c.args.rules.now c.loop-rule.rule-index
-    c.rule-item.result c.loop-rule-test.true c.rule-item.is c.loop-rule.marks c.if-has-support.marks
-    (elim c.if-has-support.branch [
-      | then-has-support w ↦
-          w.marks-is ∙ w.add-heads-marks.ensures ∙ ap (λ es. with_heads c.args.sheet es c.loop-rule.marks) w.as-slice-then-has-support.ensures.value
-          ∙ sym (cond-true _ _ _ (sym (w.if-has-support.ensures ∙ ap (λ ks. all (supported c.args.sheet c.loop-rule.marks) (map constraint_of ks)) c.as-slice.ensures.value)))
-      | else-has-support w ↦
+    c.rule-item.result c.loop-rule-test.true c.rule-item.is c.loop-rule.marks c.if-has_support.marks
+    (elim c.if-has_support.branch [
+      | then-has_support w ↦
+          w.marks-is ∙ w.add_heads-marks.ensures ∙ ap (λ es. with_heads c.args.sheet es c.loop-rule.marks) w.as_slice-then-has_support.ensures.value
+          ∙ sym (cond-true _ _ _ (sym (w.if-has_support.ensures ∙ ap (λ ks. all (supported c.args.sheet c.loop-rule.marks) (map constraint_of ks)) c.as_slice.ensures.value)))
+      | else-has_support w ↦
           w.marks-is
-          ∙ sym (cond-false _ _ _ (sym (w.if-has-support.ensures ∙ ap (λ ks. all (supported c.args.sheet c.loop-rule.marks) (map constraint_of ks)) c.as-slice.ensures.value)))
+          ∙ sym (cond-false _ _ _ (sym (w.if-has_support.ensures ∙ ap (λ ks. all (supported c.args.sheet c.loop-rule.marks) (map constraint_of ks)) c.as_slice.ensures.value)))
     ])
     ∙ c.loop-rule.invariant
 

@@ -5,18 +5,18 @@ use Rattle.sheets.specs.Lists.{any}
 use Rattle.judges.proofs.Steps.{all_hit, all_miss, all_none}
 use Rattle.judges.proofs.list.are_kept.Goals as goal
 
-pub returns-then-not-is-one-held : goal.returns-then-not-is-one-held
-returns-then-not-is-one-held c =
+pub returns-then-not-is_one_held : goal.returns-then-not-is_one_held
+returns-then-not-is_one_held c =
     sym (all_miss (any (held c.args.there c.args.among)) clause_of c.args.clauses.now c.args.clauses.now refl c.loop-clause.clause-index
     c.clause-item.result c.loop-clause-test.true c.clause-item.is
-    (sym (c.if-not-is-one-held.ensures ∙ ap (any (held c.args.there c.args.among)) c.as-slice.ensures.value)))
+    (sym (c.if-not-is_one_held.ensures ∙ ap (any (held c.args.there c.args.among)) c.as_slice.ensures.value)))
     ∙ c.loop-clause.invariant
 
 pub loop-clause-preserved : goal.loop-clause-preserved
 loop-clause-preserved c =
     all_hit (any (held c.args.there c.args.among)) clause_of c.args.clauses.now c.args.clauses.now refl c.loop-clause.clause-index
     c.clause-item.result c.loop-clause-test.true c.clause-item.is
-    (sym (c.if-not-is-one-held.ensures ∙ ap (any (held c.args.there c.args.among)) c.as-slice.ensures.value))
+    (sym (c.if-not-is_one_held.ensures ∙ ap (any (held c.args.there c.args.among)) c.as_slice.ensures.value))
     ∙ c.loop-clause.invariant
 
 pub returns : goal.returns

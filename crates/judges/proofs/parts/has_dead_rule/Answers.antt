@@ -4,16 +4,16 @@ use Rattle.judges.specs.Books.{dead_rule}
 use Rattle.judges.proofs.Steps.{any_hit, any_miss, any_none}
 use Rattle.judges.proofs.parts.has_dead_rule.Goals as goal
 
-pub returns-then-is-dead-rule : goal.returns-then-is-dead-rule
-returns-then-is-dead-rule c =
+pub returns-then-is_dead_rule : goal.returns-then-is_dead_rule
+returns-then-is_dead_rule c =
     sym (any_hit (dead_rule c.args.part.present c.args.part.absent) rule_of c.args.rules.now c.loop-rule.rule-index
-    c.rule-item.result c.loop-rule-test.true c.rule-item.is (sym c.if-is-dead-rule.ensures))
+    c.rule-item.result c.loop-rule-test.true c.rule-item.is (sym c.if-is_dead_rule.ensures))
     ∙ c.loop-rule.invariant
 
 pub loop-rule-preserved : goal.loop-rule-preserved
 loop-rule-preserved c =
     any_miss (dead_rule c.args.part.present c.args.part.absent) rule_of c.args.rules.now c.loop-rule.rule-index
-    c.rule-item.result c.loop-rule-test.true c.rule-item.is (sym c.if-is-dead-rule.ensures)
+    c.rule-item.result c.loop-rule-test.true c.rule-item.is (sym c.if-is_dead_rule.ensures)
     ∙ c.loop-rule.invariant
 
 pub returns : goal.returns

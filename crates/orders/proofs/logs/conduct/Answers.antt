@@ -32,11 +32,11 @@ loop-call-preserved g c =
     let d = call.Pin 0 in
     let turn : Turn (j begun.acts.judge) (s begun.scale) from (get_or calls i d) r to =
     subst₂ (λ a b. Turn (j a) (s b) from (get_or calls i d) r to) inv.1 inv.2 turned.turn in (
-      along_more (j begun.acts.judge) (s begun.scale) calls (vec_items c.args.log.now) (vec_items c.loop-call.log) (vec_items c.push-reserved.new.self) i from to d r
-          inv.0 c.loop-call-test.true turn c.push-reserved.ensures.items,
+      along_more (j begun.acts.judge) (s begun.scale) calls (vec_items c.args.log.now) (vec_items c.loop-call.log) (vec_items c.push_reserved.new.self) i from to d r
+          inv.0 c.loop-call-test.true turn c.push_reserved.ensures.items,
       judge,
       scale,
-      c.push-reserved.ensures.capacity ∙ inv.3,
+      c.push_reserved.ensures.capacity ∙ inv.3,
     )
 
 -- the room is at its end

@@ -5,14 +5,14 @@ use Rattle.sheets.proofs.Lists.{any_passes, any_fails}
 use Rattle.orders.specs.Acts.{strikes}
 use Rattle.orders.proofs.standing.is_struck.Goals as goal
 
-pub returns-then-strikes-sheet : goal.returns-then-strikes-sheet
-returns-then-strikes-sheet c =
-    sym (any_passes (strikes c.args.sheet) c.args.acts.now c.loop-act.act-index _ c.loop-act-test.true (sym c.if-strikes-sheet.ensures))
+pub returns-then-strikes_sheet : goal.returns-then-strikes_sheet
+returns-then-strikes_sheet c =
+    sym (any_passes (strikes c.args.sheet) c.args.acts.now c.loop-act.act-index _ c.loop-act-test.true (sym c.if-strikes_sheet.ensures))
     ∙ c.loop-act.invariant
 
 pub loop-act-preserved : goal.loop-act-preserved
 loop-act-preserved c =
-    any_fails (strikes c.args.sheet) c.args.acts.now c.loop-act.act-index _ c.loop-act-test.true (sym c.if-strikes-sheet.ensures)
+    any_fails (strikes c.args.sheet) c.args.acts.now c.loop-act.act-index _ c.loop-act-test.true (sym c.if-strikes_sheet.ensures)
     ∙ c.loop-act.invariant
 
 pub returns : goal.returns

@@ -6,15 +6,15 @@ use Rattle.orders.proofs.Walks.{step_within, steps_one}
 use Rattle.orders.proofs.steps.walk.Goals as goal
 
 pub loop-taken-init : goal.loop-taken-init
-loop-taken-init g c = (omega arith, c.requires, c.held-cost-cost.ensures, none)
+loop-taken-init g c = (omega arith, c.requires, c.held_cost-cost.ensures, none)
 
 pub loop-taken-preserved : goal.loop-taken-preserved
 loop-taken-preserved g c =
     let j = g.J.Judge.judging c.args.judge.now in
     let s = g.S.Scale.scaling c.args.scale.now in
     let x = c.loop-taken.search in
-    let z = c.step-next-cost.result.0 in
-    let told = c.step-next-cost.ensures in
+    let z = c.step-next_cost.result.0 in
+    let told = c.step-next_cost.ensures in
     let old = c.loop-taken.invariant in (
       omega arith,
       step_within j s width x z (g.met.J.Judge.lawful c.args.judge.now).few old.1 told.search,

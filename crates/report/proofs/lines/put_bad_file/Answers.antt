@@ -25,33 +25,33 @@ module _ (bad : BadFile) (n : ℕ) (e : n ≡ number bad.why) (xs ys : List ℕ)
   numbered : (zs : List ℕ) (k : ℕ) → Puts ys d (decimal n) zs k → Fits zs k (behind bad)
   numbered zs k q = fits_rest (behind bad) q worded
 
-pub put-text-word-requires : goal.put-text-word-requires
+pub put_text-word-requires : goal.put_text-word-requires
 unfolding bad_file_line
-put-text-word-requires c = fits_first (codes "refused ") (decimal (number c.args.bad.why) ++ behind c.args.bad) c.requires
+put_text-word-requires c = fits_first (codes "refused ") (decimal (number c.args.bad.why) ++ behind c.args.bad) c.requires
 
-pub put-number-number-requires : goal.put-number-number-requires
-put-number-number-requires c =
+pub put_number-number-requires : goal.put_number-number-requires
+put_number-number-requires c =
     let bad = c.args.bad in
-    fits_first (decimal c.from.result) (behind bad) (worded bad c.from.result (c.from.ensures ∙ c.number.ensures) _ _ _ c.requires c.put-text-word.ensures)
+    fits_first (decimal c.from.result) (behind bad) (worded bad c.from.result (c.from.ensures ∙ c.number.ensures) _ _ _ c.requires c.put_text-word.ensures)
 
-pub put-text-word-requires-2 : goal.put-text-word-requires-2
-put-text-word-requires-2 c =
+pub put_text-word-requires-2 : goal.put_text-word-requires-2
+put_text-word-requires-2 c =
     let bad = c.args.bad in
-    fits_first (codes " at ") (offset bad) (numbered bad c.from.result (c.from.ensures ∙ c.number.ensures) _ _ _ c.requires c.put-text-word.ensures _ _ c.put-number-number.ensures)
+    fits_first (codes " at ") (offset bad) (numbered bad c.from.result (c.from.ensures ∙ c.number.ensures) _ _ _ c.requires c.put_text-word.ensures _ _ c.put_number-number.ensures)
 
-pub put-number-offset-requires : goal.put-number-offset-requires
-put-number-offset-requires c =
+pub put_number-offset-requires : goal.put_number-offset-requires
+put_number-offset-requires c =
     let bad = c.args.bad in
     fits_first (decimal bad.at) line_end
-    (fits_rest (offset bad) c.put-text-word-2.ensures (numbered bad c.from.result (c.from.ensures ∙ c.number.ensures) _ _ _ c.requires c.put-text-word.ensures _ _ c.put-number-number.ensures))
+    (fits_rest (offset bad) c.put_text-word-2.ensures (numbered bad c.from.result (c.from.ensures ∙ c.number.ensures) _ _ _ c.requires c.put_text-word.ensures _ _ c.put_number-number.ensures))
 
-pub put-text-requires : goal.put-text-requires
-put-text-requires c =
+pub put_text-requires : goal.put_text-requires
+put_text-requires c =
     let bad = c.args.bad in
-    fits_rest line_end c.put-number-offset.ensures
-    (fits_rest (offset bad) c.put-text-word-2.ensures (numbered bad c.from.result (c.from.ensures ∙ c.number.ensures) _ _ _ c.requires c.put-text-word.ensures _ _ c.put-number-number.ensures))
+    fits_rest line_end c.put_number-offset.ensures
+    (fits_rest (offset bad) c.put_text-word-2.ensures (numbered bad c.from.result (c.from.ensures ∙ c.number.ensures) _ _ _ c.requires c.put_text-word.ensures _ _ c.put_number-number.ensures))
 
 pub returns : goal.returns
 returns c =
     puts_like (text c.from.result c.args.bad (c.from.ensures ∙ c.number.ensures))
-    (puts_join c.put-text-word.ensures (puts_join c.put-number-number.ensures (puts_join c.put-text-word-2.ensures (puts_join c.put-number-offset.ensures c.put-text.ensures))))
+    (puts_join c.put_text-word.ensures (puts_join c.put_number-number.ensures (puts_join c.put_text-word-2.ensures (puts_join c.put_number-offset.ensures c.put_text.ensures))))

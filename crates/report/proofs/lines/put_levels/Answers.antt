@@ -13,22 +13,22 @@ first levels n w e le = levels_left_more levels n le ∙ ap (λ (v : ℤ). (32 �
 pub loop-level-init : goal.loop-level-init
 loop-level-init c = left_like (levels_left c.args.cost.levels top) (sym (levels_left_all c.args.cost.levels)) (left_all c.requires)
 
-pub put-text-next-requires : goal.put-text-next-requires
-put-text-next-requires c =
+pub put_text-next-requires : goal.put_text-next-requires
+put_text-next-requires c =
     let levels = c.args.cost.levels in
     let n = c.loop-level.level in
     let rest = signed_decimal (cost_at levels n) ++ levels_left levels (n - 1) in
     fits_first (32 ∷ []) rest (left_like ((32 ∷ []) ++ rest) (levels_left_more levels n c.loop-level-test.true) c.loop-level.invariant).room
 
-pub put-signed-end-requires : goal.put-signed-end-requires
-put-signed-end-requires c =
+pub put_signed-end-requires : goal.put_signed-end-requires
+put_signed-end-requires c =
     let levels = c.args.cost.levels in
     let n = c.loop-level.level in
     let fits : SFits w32 c.at.result = search rules in
     let read = to_z-of_z w32 c.at.result fits in
     let rest = signed_decimal _ ++ levels_left levels (n - 1) in
     fits_first _ (levels_left levels (n - 1))
-    (fits_rest rest c.put-text-next.ensures (left_like ((32 ∷ []) ++ rest) (first levels n _ (read ∙ c.at.ensures) c.loop-level-test.true) c.loop-level.invariant).room)
+    (fits_rest rest c.put_text-next.ensures (left_like ((32 ∷ []) ++ rest) (first levels n _ (read ∙ c.at.ensures) c.loop-level-test.true) c.loop-level.invariant).room)
 
 pub loop-level-preserved : goal.loop-level-preserved
 loop-level-preserved c =
@@ -38,8 +38,8 @@ loop-level-preserved c =
     let read = to_z-of_z w32 c.at.result fits in
     let rest = signed_decimal _ ++ levels_left levels (n - 1) in
     left_more (levels_left levels (n - 1))
-    (left_more rest (left_like ((32 ∷ []) ++ rest) (first levels n _ (read ∙ c.at.ensures) c.loop-level-test.true) c.loop-level.invariant) c.put-text-next.ensures)
-    c.put-signed-end.ensures
+    (left_more rest (left_like ((32 ∷ []) ++ rest) (first levels n _ (read ∙ c.at.ensures) c.loop-level-test.true) c.loop-level.invariant) c.put_text-next.ensures)
+    c.put_signed-end.ensures
 
 pub returns : goal.returns
 returns c = left_none (left_like [] (levels_left_none c.args.cost.levels c.loop-level.level c.loop-level-test.false) c.loop-level.invariant)

@@ -15,8 +15,8 @@ none : (log : List (Event (LevelCost × ℕ))) (i : ℕ) → length log ≤ i �
 unfolding log_text
 none log i le = at_drop_all log_text log i le
 
-pub put-answer-end-requires : goal.put-answer-end-requires
-put-answer-end-requires c =
+pub put_answer-end-requires : goal.put_answer-end-requires
+put_answer-end-requires c =
     let log = c.args.log.now in
     let i = c.loop-event.event-index in
     let e = c.event-item.result in
@@ -33,7 +33,7 @@ loop-event-preserved c =
     let e = c.event-item.result in
     left_more (log_text (drop (i + 1) log))
     (left_like (answer_text e.answer ++ log_text (drop (i + 1) log)) (first log i e c.loop-event-test.true c.event-item.is) c.loop-event.invariant)
-    c.put-answer-end.ensures
+    c.put_answer-end.ensures
 
 pub returns : goal.returns
 returns c = left_none (left_like [] (none c.args.log.now c.loop-event.event-index c.loop-event-test.false) c.loop-event.invariant)

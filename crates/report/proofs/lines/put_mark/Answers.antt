@@ -15,19 +15,19 @@ missing : (z i : ℕ) → false ≡ has z i → [] ≡ spaced decimal (filter (h
 unfolding spaced
 missing z i f = ap (λ (b : Bool). spaced decimal (cond b (i ∷ []) [])) f
 
-pub returns-then-not-has-mark : goal.returns-then-not-has-mark
-returns-then-not-has-mark c =
-    puts_like (missing c.args.sheet c.args.mark c.if-not-has-mark.ensures) (puts_none c.args.out.now c.args.at (omega (arith, c.requires.room)))
+pub returns-then-not-has_mark : goal.returns-then-not-has_mark
+returns-then-not-has_mark c =
+    puts_like (missing c.args.sheet c.args.mark c.if-not-has_mark.ensures) (puts_none c.args.out.now c.args.at (omega (arith, c.requires.room)))
 
-pub put-text-next-requires : goal.put-text-next-requires
-put-text-next-requires c =
-    fits_first (32 ∷ []) (decimal c.args.mark) (fits_like (sym (there c.args.sheet c.args.mark c.args.mark refl c.if-not-has-mark.ensures)) c.requires)
+pub put_text-next-requires : goal.put_text-next-requires
+put_text-next-requires c =
+    fits_first (32 ∷ []) (decimal c.args.mark) (fits_like (sym (there c.args.sheet c.args.mark c.args.mark refl c.if-not-has_mark.ensures)) c.requires)
 
-pub put-number-requires : goal.put-number-requires
-put-number-requires c =
-    fits_rest (decimal c.from.result) c.put-text-next.ensures
-    (fits_like (sym (there c.args.sheet c.args.mark c.from.result c.from.ensures c.if-not-has-mark.ensures)) c.requires)
+pub put_number-requires : goal.put_number-requires
+put_number-requires c =
+    fits_rest (decimal c.from.result) c.put_text-next.ensures
+    (fits_like (sym (there c.args.sheet c.args.mark c.from.result c.from.ensures c.if-not-has_mark.ensures)) c.requires)
 
 pub returns : goal.returns
 returns c =
-    puts_like (there c.args.sheet c.args.mark c.from.result c.from.ensures c.if-not-has-mark.ensures) (puts_join c.put-text-next.ensures c.put-number.ensures)
+    puts_like (there c.args.sheet c.args.mark c.from.result c.from.ensures c.if-not-has_mark.ensures) (puts_join c.put_text-next.ensures c.put_number.ensures)

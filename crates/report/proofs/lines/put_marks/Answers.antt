@@ -8,8 +8,8 @@ use Rattle.report.proofs.lines.put_marks.Goals as goal
 pub loop-mark-init : goal.loop-mark-init
 loop-mark-init c = left_like (marks_left c.args.sheet 0) (sym (marks_left_all c.args.sheet)) (left_all c.requires)
 
-pub put-mark-end-requires : goal.put-mark-end-requires
-put-mark-end-requires c =
+pub put_mark-end-requires : goal.put_mark-end-requires
+put_mark-end-requires c =
     let z = c.args.sheet in
     let i = c.loop-mark.mark in
     let piece = spaced decimal (filter (has z) (i ∷ [])) in
@@ -19,7 +19,7 @@ pub loop-mark-preserved : goal.loop-mark-preserved
 loop-mark-preserved c =
     let z = c.args.sheet in
     let i = c.loop-mark.mark in
-    left_more (marks_left z (i + 1)) (left_like (spaced decimal (filter (has z) (i ∷ [])) ++ marks_left z (i + 1)) (marks_left_more z i c.loop-mark-test.true) c.loop-mark.invariant) c.put-mark-end.ensures
+    left_more (marks_left z (i + 1)) (left_like (spaced decimal (filter (has z) (i ∷ [])) ++ marks_left z (i + 1)) (marks_left_more z i c.loop-mark-test.true) c.loop-mark.invariant) c.put_mark-end.ensures
 
 pub returns : goal.returns
 returns c = left_none (left_like [] (marks_left_none c.args.sheet c.loop-mark.mark c.loop-mark-test.false) c.loop-mark.invariant)

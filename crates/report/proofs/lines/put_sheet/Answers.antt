@@ -36,54 +36,54 @@ module _ (z : ℕ) (cost : LevelCost × ℕ) where
     room_levels : {zs us : List ℕ} {c d : ℕ} → Puts ys b (spaced decimal (marks z)) zs c → Puts zs c (codes " cost") us d → Fits us d from_levels
     room_levels listed cost-word = fits_rest from_levels cost-word (fits_rest from_cost listed room_marks)
 
-pub put-text-word-requires : goal.put-text-word-requires
+pub put_text-word-requires : goal.put_text-word-requires
 unfolding sheet_line
-put-text-word-requires c = fits_first (codes "sheet") (from_marks c.args.sheet c.args.cost) c.requires
+put_text-word-requires c = fits_first (codes "sheet") (from_marks c.args.sheet c.args.cost) c.requires
 
-pub put-marks-marks-requires : goal.put-marks-marks-requires
-put-marks-marks-requires c = fits_first (spaced decimal (marks c.args.sheet)) (from_cost c.args.sheet c.args.cost) (room_marks c.args.sheet c.args.cost c.requires c.put-text-word.ensures)
+pub put_marks-marks-requires : goal.put_marks-marks-requires
+put_marks-marks-requires c = fits_first (spaced decimal (marks c.args.sheet)) (from_cost c.args.sheet c.args.cost) (room_marks c.args.sheet c.args.cost c.requires c.put_text-word.ensures)
 
-pub put-text-word-requires-2 : goal.put-text-word-requires-2
-put-text-word-requires-2 c =
+pub put_text-word-requires-2 : goal.put_text-word-requires-2
+put_text-word-requires-2 c =
     let z = c.args.sheet in
     let k = c.args.cost in
-    fits_first (codes " cost") (from_levels z k) (fits_rest (from_cost z k) c.put-marks-marks.ensures (room_marks z k c.requires c.put-text-word.ensures))
+    fits_first (codes " cost") (from_levels z k) (fits_rest (from_cost z k) c.put_marks-marks.ensures (room_marks z k c.requires c.put_text-word.ensures))
 
-pub put-levels-costs-requires : goal.put-levels-costs-requires
-put-levels-costs-requires c =
+pub put_levels-costs-requires : goal.put_levels-costs-requires
+put_levels-costs-requires c =
     let z = c.args.sheet in
     let k = c.args.cost in
-    fits_first (spaced signed_decimal (levels z k)) (from_off z k) (room_levels z k c.requires c.put-text-word.ensures c.put-marks-marks.ensures c.put-text-word-2.ensures)
+    fits_first (spaced signed_decimal (levels z k)) (from_off z k) (room_levels z k c.requires c.put_text-word.ensures c.put_marks-marks.ensures c.put_text-word-2.ensures)
 
-pub put-text-word-requires-3 : goal.put-text-word-requires-3
-put-text-word-requires-3 c =
+pub put_text-word-requires-3 : goal.put_text-word-requires-3
+put_text-word-requires-3 c =
     let z = c.args.sheet in
     let k = c.args.cost in
     fits_first (codes " off ") (from_distance z k)
-    (fits_rest (from_off z k) c.put-levels-costs.ensures (room_levels z k c.requires c.put-text-word.ensures c.put-marks-marks.ensures c.put-text-word-2.ensures))
+    (fits_rest (from_off z k) c.put_levels-costs.ensures (room_levels z k c.requires c.put_text-word.ensures c.put_marks-marks.ensures c.put_text-word-2.ensures))
 
-pub put-number-number-requires : goal.put-number-number-requires
-put-number-number-requires c =
+pub put_number-number-requires : goal.put_number-number-requires
+put_number-number-requires c =
     let z = c.args.sheet in
     let k = c.args.cost in
     fits_first (decimal k.1) line_end
-    (fits_rest (from_distance z k) c.put-text-word-3.ensures
-    (fits_rest (from_off z k) c.put-levels-costs.ensures (room_levels z k c.requires c.put-text-word.ensures c.put-marks-marks.ensures c.put-text-word-2.ensures)))
+    (fits_rest (from_distance z k) c.put_text-word-3.ensures
+    (fits_rest (from_off z k) c.put_levels-costs.ensures (room_levels z k c.requires c.put_text-word.ensures c.put_marks-marks.ensures c.put_text-word-2.ensures)))
 
-pub put-text-requires : goal.put-text-requires
-put-text-requires c =
+pub put_text-requires : goal.put_text-requires
+put_text-requires c =
     let z = c.args.sheet in
     let k = c.args.cost in
-    fits_rest line_end c.put-number-number.ensures
-    (fits_rest (from_distance z k) c.put-text-word-3.ensures
-    (fits_rest (from_off z k) c.put-levels-costs.ensures (room_levels z k c.requires c.put-text-word.ensures c.put-marks-marks.ensures c.put-text-word-2.ensures)))
+    fits_rest line_end c.put_number-number.ensures
+    (fits_rest (from_distance z k) c.put_text-word-3.ensures
+    (fits_rest (from_off z k) c.put_levels-costs.ensures (room_levels z k c.requires c.put_text-word.ensures c.put_marks-marks.ensures c.put_text-word-2.ensures)))
 
 pub returns : goal.returns
 unfolding sheet_line
 returns c =
-    puts_join c.put-text-word.ensures
-    (puts_join c.put-marks-marks.ensures
-    (puts_join c.put-text-word-2.ensures
-    (puts_join c.put-levels-costs.ensures
-    (puts_join c.put-text-word-3.ensures
-    (puts_join c.put-number-number.ensures c.put-text.ensures)))))
+    puts_join c.put_text-word.ensures
+    (puts_join c.put_marks-marks.ensures
+    (puts_join c.put_text-word-2.ensures
+    (puts_join c.put_levels-costs.ensures
+    (puts_join c.put_text-word-3.ensures
+    (puts_join c.put_number-number.ensures c.put_text.ensures)))))

@@ -29,25 +29,25 @@ written bytes before lines after n file room means fitting p =
 bad_fits : (xs : List ℕ) (bad : BadFile) → 4096 ≤ length xs → Fits xs 0 (bad_file_line bad)
 bad_fits xs bad room = record { room = omega (arith, bad_file_short bad) }
 
-pub put-bad-file-requires : goal.put-bad-file-requires
-put-bad-file-requires c = bad_fits c.args.out.now _ c.if-out-lt-LEAST-BUFFER.false
+pub put_bad_file-requires : goal.put_bad_file-requires
+put_bad_file-requires c = bad_fits c.args.out.now _ c.if-out-lt-LEAST_BUFFER.false
 
-pub put-log-requires : goal.put-log-requires
-put-log-requires c =
-    let same = ap (λ l. length (log_text l)) c.as-slice.ensures.value in
-    record { room = omega (arith, same, c.in-ok-log.ensures.short, c.if-out-lt-LEAST-BUFFER.false) }
+pub put_log-requires : goal.put_log-requires
+put_log-requires c =
+    let same = ap (λ l. length (log_text l)) c.as_slice.ensures.value in
+    record { room = omega (arith, same, c.in_ok-log.ensures.short, c.if-out-lt-LEAST_BUFFER.false) }
 
-pub returns-in-ok-log : goal.returns-in-ok-log
-returns-in-ok-log c =
-    written c.args.file.now c.args.out.now (log_text c.as-slice.result.now) c.put-log.new.out c.put-log.result (Ok (file_of c.in-Ok.rules)) c.if-out-lt-LEAST-BUFFER.false
+pub returns-in_ok-log : goal.returns-in_ok-log
+returns-in_ok-log c =
+    written c.args.file.now c.args.out.now (log_text c.as_slice.result.now) c.put_log.new.out c.put_log.result (Ok (file_of c.in-Ok.rules)) c.if-out-lt-LEAST_BUFFER.false
     c.in-Ok.ensures.meaning
-    (subst (λ l. Fitting (Ok (file_of c.in-Ok.rules)) (log_text l)) (sym c.as-slice.ensures.value) c.in-ok-log.ensures)
-    c.put-log.ensures
+    (subst (λ l. Fitting (Ok (file_of c.in-Ok.rules)) (log_text l)) (sym c.as_slice.ensures.value) c.in_ok-log.ensures)
+    c.put_log.ensures
 
 pub returns-in-Err-Refused : goal.returns-in-Err-Refused
 returns-in-Err-Refused c =
     let bad = c.in-Err-Refused.bad in
-    written c.args.file.now c.args.out.now (bad_file_line bad) c.put-bad-file.new.out c.put-bad-file.result (Err bad) c.if-out-lt-LEAST-BUFFER.false
+    written c.args.file.now c.args.out.now (bad_file_line bad) c.put_bad_file.new.out c.put_bad_file.result (Err bad) c.if-out-lt-LEAST_BUFFER.false
     (search rules)
     (record { meaning = refl; short = bad_file_short bad })
-    (puts_like (ap bad_file_line c.in-Err-Refused.bad-is) c.put-bad-file.ensures)
+    (puts_like (ap bad_file_line c.in-Err-Refused.bad-is) c.put_bad_file.ensures)

@@ -9,13 +9,13 @@ use Rattle.report.proofs.settling.calls_after.Goals as goal
 
 pub loop-act-preserved : goal.loop-act-preserved
 loop-act-preserved c =
-    pushed (c.to-call.result ∷ []) c.loop-act.invariant c.in-ok-push.was c.push.ensures.items
-    ∙ ap (λ (x : Call). map call_of (take c.loop-act.act-index c.args.acts.now) ++ (x ∷ [])) c.to-call.ensures
+    pushed (c.to_call.result ∷ []) c.loop-act.invariant c.in_ok-push.was c.push.ensures.items
+    ∙ ap (λ (x : Call). map call_of (take c.loop-act.act-index c.args.acts.now) ++ (x ∷ [])) c.to_call.ensures
     ∙ sym (map_more call_of c.args.acts.now c.loop-act.act-index (Pin 0) c.loop-act-test.true)
 
 pub returns : goal.returns
 returns c =
     let acts = c.args.acts.now in
     let all = c.loop-act.invariant ∙ ap (map call_of) (take_all c.loop-act.act-index acts c.loop-act-test.false) in
-    pushed (Settle ∷ []) (pushed (Seek ∷ []) all c.in-ok-push-2.was c.push-2.ensures.items) c.in-ok-push-3.was c.push-3.ensures.items
+    pushed (Settle ∷ []) (pushed (Seek ∷ []) all c.in_ok-push-2.was c.push-2.ensures.items) c.in_ok-push-3.was c.push-3.ensures.items
     ∙ append_assoc (map call_of acts) (Seek ∷ []) (Settle ∷ [])

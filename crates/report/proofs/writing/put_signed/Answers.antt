@@ -22,22 +22,22 @@ plain_read w z e t = plain w t ∙ ap signed_decimal e
 minus_read : (n : ℕ) (w z : ℤ) → n ≡ nat_abs w → w ≡ z → le_z (pos 0) w ≡ false → (45 ∷ []) ++ decimal n ≡ signed_decimal z
 minus_read n w z a e f = ap (λ (m : ℕ). (45 ∷ []) ++ decimal m) a ∙ minus w f ∙ ap signed_decimal e
 
-pub put-number-requires : goal.put-number-requires
-put-number-requires c = fits_like (sym (plain_read _ c.args.n (to_z-of_z w32 c.args.n c.ranges.n) c.if-n-ge0.true)) c.requires
+pub put_number-requires : goal.put_number-requires
+put_number-requires c = fits_like (sym (plain_read _ c.args.n (to_z-of_z w32 c.args.n c.ranges.n) c.if-n-ge0.true)) c.requires
 
 pub returns-then-n-ge0 : goal.returns-then-n-ge0
-returns-then-n-ge0 c = puts_like (plain_read _ c.args.n (to_z-of_z w32 c.args.n c.ranges.n) c.if-n-ge0.true) c.put-number.ensures
+returns-then-n-ge0 c = puts_like (plain_read _ c.args.n (to_z-of_z w32 c.args.n c.ranges.n) c.if-n-ge0.true) c.put_number.ensures
 
-pub put-text-next-requires : goal.put-text-next-requires
-put-text-next-requires c =
+pub put_text-next-requires : goal.put_text-next-requires
+put_text-next-requires c =
     fits_first (45 ∷ []) _ (fits_like (sym (minus_read _ _ c.args.n refl (to_z-of_z w32 c.args.n c.ranges.n) c.if-n-ge0.false)) c.requires)
 
-pub put-number-requires-2 : goal.put-number-requires-2
-put-number-requires-2 c =
-    fits_rest (decimal c.unsigned-abs.result) c.put-text-next.ensures
-    (fits_like (sym (minus_read c.unsigned-abs.result _ c.args.n c.unsigned-abs.ensures.value (to_z-of_z w32 c.args.n c.ranges.n) c.if-n-ge0.false)) c.requires)
+pub put_number-requires-2 : goal.put_number-requires-2
+put_number-requires-2 c =
+    fits_rest (decimal c.unsigned_abs.result) c.put_text-next.ensures
+    (fits_like (sym (minus_read c.unsigned_abs.result _ c.args.n c.unsigned_abs.ensures.value (to_z-of_z w32 c.args.n c.ranges.n) c.if-n-ge0.false)) c.requires)
 
 pub returns : goal.returns
 returns c =
-    puts_like (minus_read c.unsigned-abs.result _ c.args.n c.unsigned-abs.ensures.value (to_z-of_z w32 c.args.n c.ranges.n) c.if-n-ge0.false)
-    (puts_join c.put-text-next.ensures c.put-number-2.ensures)
+    puts_like (minus_read c.unsigned_abs.result _ c.args.n c.unsigned_abs.ensures.value (to_z-of_z w32 c.args.n c.ranges.n) c.if-n-ge0.false)
+    (puts_join c.put_text-next.ensures c.put_number-2.ensures)

@@ -3,22 +3,22 @@ use Rattle.rulefile.specs.Format.{head_fields, head_body}
 use Rattle.rulefile.proofs.Steps.{passed_on}
 use Rattle.rulefile.proofs.body.head.Goals as goal
 
-pub returns-in-err-count : goal.returns-in-err-count
+pub returns-in_err-count : goal.returns-in_err-count
 unfolding head_body head_fields
-returns-in-err-count c = passed_on _ c.from-residual.result c.from-residual.ensures.1 (rw c.in-err-count.ensures)
+returns-in_err-count c = passed_on _ c.from_residual.result c.from_residual.ensures.1 (rw c.in_err-count.ensures)
 
-pub returns-in-err-house : goal.returns-in-err-house
+pub returns-in_err-house : goal.returns-in_err-house
 unfolding head_body head_fields
-returns-in-err-house c = passed_on _ c.from-residual-in-err-house.result c.from-residual-in-err-house.ensures.1 (rw (c.in-ok-count.ensures, c.in-err-house.ensures))
+returns-in_err-house c = passed_on _ c.from_residual-in_err-house.result c.from_residual-in_err-house.ensures.1 (rw (c.in_ok-count.ensures, c.in_err-house.ensures))
 
-pub returns-then-not-within-count : goal.returns-then-not-within-count
+pub returns-then-not-within_count : goal.returns-then-not-within_count
 unfolding head_body head_fields
-returns-then-not-within-count c = rw (c.in-ok-count.ensures, c.in-ok-house.ensures, sym c.within-count.ensures.value ∙ c.if-not-within-count.true)
+returns-then-not-within_count c = rw (c.in_ok-count.ensures, c.in_ok-house.ensures, sym c.within_count.ensures.value ∙ c.if-not-within_count.true)
 
-pub returns-in-err-end : goal.returns-in-err-end
+pub returns-in_err-end : goal.returns-in_err-end
 unfolding head_body head_fields
-returns-in-err-end c = passed_on _ c.from-residual-in-err-end.result c.from-residual-in-err-end.ensures.1 (rw (c.in-ok-count.ensures, c.in-ok-house.ensures, sym c.within-count.ensures.value ∙ c.if-not-within-count.false, c.in-err-end.ensures))
+returns-in_err-end c = passed_on _ c.from_residual-in_err-end.result c.from_residual-in_err-end.ensures.1 (rw (c.in_ok-count.ensures, c.in_ok-house.ensures, sym c.within_count.ensures.value ∙ c.if-not-within_count.false, c.in_err-end.ensures))
 
 pub returns : goal.returns
 unfolding head_body head_fields
-returns c = rw (c.in-ok-count.ensures, c.in-ok-house.ensures, sym c.within-count.ensures.value ∙ c.if-not-within-count.false, c.in-ok-end.ensures)
+returns c = rw (c.in_ok-count.ensures, c.in_ok-house.ensures, sym c.within_count.ensures.value ∙ c.if-not-within_count.false, c.in_ok-end.ensures)

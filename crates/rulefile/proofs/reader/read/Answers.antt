@@ -4,8 +4,8 @@ use Rattle.rulefile.proofs.Complete.{reading}
 use Rattle.rulefile.proofs.Drafts.{decode_long, decode_uncut, decode_refused, decode_first, records_all, records_uncut, records_refused, records_more, some_left, none_left, read_fault}
 use Rattle.rulefile.proofs.reader.read.Goals as goal
 
-pub returns-then-size-gt-MOST-BYTES : goal.returns-then-size-gt-MOST-BYTES
-returns-then-size-gt-MOST-BYTES c = rw c.refused.ensures (reading _ _ (decode_long c.args.bytes.now c.if-size-gt-MOST-BYTES.true))
+pub returns-then-size-gt-MOST_BYTES : goal.returns-then-size-gt-MOST_BYTES
+returns-then-size-gt-MOST_BYTES c = rw c.refused.ensures (reading _ _ (decode_long c.args.bytes.now c.if-size-gt-MOST_BYTES.true))
 
 pub returns-in-Err : goal.returns-in-Err
 returns-in-Err c = rw c.refused-in-Err.ensures (reading _ _ (decode_uncut c.args.bytes.now (omega arith) c.in-Err.ensures.value))

@@ -7,21 +7,17 @@ use Rattle.orders.specs.Models.{standing}
 use Rattle.orders.proofs.Dockets.{standing_length, all_push, accepted_range, accepted_room, added, added_length}
 use Rattle.orders.proofs.docket.Docket.add.Goals as goal
 
-pub invariant-of-self : goal.invariant-of-self
-invariant-of-self c =
+pub invariant_of-self : goal.invariant_of-self
+invariant_of-self c =
     let old = c.args.self.now in
     let none : refused_act c.args.count (standing old) c.args.act ≡ None = sym c.in-None.ensures in
     let room : old.len < most_acts = omega (arith, accepted_room c.args.count (standing old) c.args.act none, standing_length old) in
-    let few : old.len + 1 ≤ most_acts = omega arith in (
-      length-set old.acts old.len c.args.act ∙ old.room,
-      (
-        few,
-        (
-          ap (all in_range) (added old c.args.act room) ∙ all_push (standing old) c.args.act old.ranges (accepted_range c.args.count (standing old) c.args.act c.requires none),
-          tt,
-        ),
-      ),
-    )
+    let few : old.len + 1 ≤ most_acts = omega arith in
+    record {
+      room = length-set old.acts old.len c.args.act ∙ old.room;
+      few = few;
+      ranges = ap (all in_range) (added old c.args.act room) ∙ all_push (standing old) c.args.act old.ranges (accepted_range c.args.count (standing old) c.args.act c.requires none);
+    }
 
 pub returns-in-None : goal.returns-in-None
 returns-in-None c =

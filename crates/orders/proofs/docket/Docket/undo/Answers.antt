@@ -6,12 +6,12 @@ use Rattle.orders.specs.Models.{standing}
 use Rattle.orders.proofs.Dockets.{all_undone, undone_front, undone_length, undo_accepted}
 use Rattle.orders.proofs.docket.Docket.undo.Goals as goal
 
-pub invariant-of-self : goal.invariant-of-self
-invariant-of-self c =
+pub invariant_of-self : goal.invariant_of-self
+invariant_of-self c =
     let old = c.args.self.now in
     let pos : 0 < old.len = omega arith in
     let few : old.len - 1 ≤ most_acts = omega (arith, old.few) in
-    (old.room, (few, (ap (all in_range) (undone_front old pos) ∙ all_undone (standing old) old.ranges, tt)))
+    record { room = old.room; few = few; ranges = ap (all in_range) (undone_front old pos) ∙ all_undone (standing old) old.ranges }
 
 pub returns : goal.returns
 returns c =

@@ -6,4 +6,4 @@ use Rattle.rulefile.proofs.Steps.{onto}
 use Rattle.rulefile.proofs.body.Body.constraints.Given as goal
 
 abbrev pub invariant-loop-i : goal.invariant-loop-i
-invariant-loop-i l = times l.n (constraint l.count) l.initial.self.rest.now ≡ onto (map constraint_of (vec_items l.all)) (times (l.n - l.-i) (constraint l.count) l.self.rest.now)
+invariant-loop-i l = times l.n (constraint l.count) l.initial.self.rest.now ≡ onto (map constraint_of (vec_items l.all)) (times (l.n - l._i) (constraint l.count) l.self.rest.now)

@@ -2,14 +2,14 @@ use Rattle.rulefile.specs.Format.{element}
 use Rattle.rulefile.proofs.Steps.{passed_on}
 use Rattle.rulefile.proofs.body.Body.element.Goals as goal
 
-pub returns-in-err-literal : goal.returns-in-err-literal
+pub returns-in_err-literal : goal.returns-in_err-literal
 unfolding element
-returns-in-err-literal c = passed_on _ c.from-residual.result c.from-residual.ensures.1 (rw c.in-err-literal.ensures)
+returns-in_err-literal c = passed_on _ c.from_residual.result c.from_residual.ensures.1 (rw c.in_err-literal.ensures)
 
-pub returns-in-err-weight : goal.returns-in-err-weight
+pub returns-in_err-weight : goal.returns-in_err-weight
 unfolding element
-returns-in-err-weight c = passed_on _ c.from-residual-in-err-weight.result c.from-residual-in-err-weight.ensures.1 (rw (c.in-ok-literal.ensures, c.in-err-weight.ensures))
+returns-in_err-weight c = passed_on _ c.from_residual-in_err-weight.result c.from_residual-in_err-weight.ensures.1 (rw (c.in_ok-literal.ensures, c.in_err-weight.ensures))
 
 pub returns : goal.returns
 unfolding element
-returns c = rw (c.in-ok-literal.ensures, c.in-ok-weight.ensures)
+returns c = rw (c.in_ok-literal.ensures, c.in_ok-weight.ensures)

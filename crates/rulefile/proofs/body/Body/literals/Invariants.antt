@@ -5,4 +5,4 @@ use Rattle.rulefile.proofs.Steps.{onto}
 use Rattle.rulefile.proofs.body.Body.literals.Given as goal
 
 abbrev pub invariant-loop-i : goal.invariant-loop-i
-invariant-loop-i l = times l.n (literal l.count) l.initial.self.rest.now ≡ onto (vec_items l.all) (times (l.n - l.-i) (literal l.count) l.self.rest.now)
+invariant-loop-i l = times l.n (literal l.count) l.initial.self.rest.now ≡ onto (vec_items l.all) (times (l.n - l._i) (literal l.count) l.self.rest.now)

@@ -14,6 +14,6 @@ returns c =
     let word : z < 2 ^ width = omega arith in
     let value : c.floor.result ≡ (levels_of ws).cost z =
     c.floor.ensures
-    ∙ ap₂ (λ p a. (levels_of ws).floor p a) c.of-sheet.ensures.present c.of-sheet.ensures.absent
+    ∙ ap₂ (λ p a. (levels_of ws).floor p a) c.of_sheet.ensures.present c.of_sheet.ensures.absent
     ∙ (levels_laws ws).exact z (others z) (sheet_part z word) (sheet_full z word) in
     record { value = value; sums = λ n. ap (λ (k : LevelCost). cost_at k.levels n) value ∙ sums_at (vec_items (rc_value c.args.self.now.file).wishes) z n }

@@ -3,8 +3,8 @@ use Rattle.sheets.specs.Sheets.{width}
 use Rattle.sheets.specs.Parts.{deciding_disjoint}
 use Rattle.sheets.proofs.part.PartSheet.deciding.Goals as goal
 
-pub invariant-of-result : goal.invariant-of-result
-invariant-of-result c =
+pub invariant_of-result : goal.invariant_of-result
+invariant_of-result c =
     let word : c.args.present < 2 ^ width = omega arith in
     let decided : c.args.decided < 2 ^ width = omega arith in
-    (deciding_disjoint c.args.decided c.args.present decided word, tt)
+    record { apart = deciding_disjoint c.args.decided c.args.present decided word }
