@@ -26,7 +26,7 @@ impl<J: Judge> Acts<J> {
 
     // Adds the act at the end, unless it is refused; returns how many acts then stand.
     pub(crate) fn add(&mut self, act: Act) -> Result<u8, Refusal>
-        ensures { Added judging self.old act result self.new }
+        ensures { Added J.judging self.old act result self.new }
     {
         let count = self.count();
         self.docket.add(count, act)

@@ -17,7 +17,7 @@ pub fn conduct<J: Judge + Drop, S: Scale + Drop>(
     calls: &[Call],
     log: &mut Vec<Event<S::Cost>>,
 )
-    ensures log { Conducted (judging judge) (scaling scale) (room_of log.old) calls.now log.old.items log.new.items }
+    ensures log { Conducted (J.judging judge) (S.scaling scale) (room_of log.old) calls.now log.old.items log.new.items }
     ensures capacity { vec_capacity log.new ≡ vec_capacity log.old }
 {
     let mut order = Order::Marking(Marking::begin(judge, scale));

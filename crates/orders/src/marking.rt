@@ -30,7 +30,7 @@ impl<J: Judge, S: Scale> Marking<J, S> {
 
     // The sheets are to have the mark. Returns how many acts then stand.
     pub fn pin(&mut self, mark: Mark) -> Result<u8, Refusal>
-        ensures acts { Added judging self.old.acts (PinAct mark) result self.new.acts }
+        ensures acts { Added J.judging self.old.acts (PinAct mark) result self.new.acts }
         ensures scale { self.new.scale ≡ self.old.scale }
     {
         self.acts.add(Act::Pin(mark))
@@ -38,7 +38,7 @@ impl<J: Judge, S: Scale> Marking<J, S> {
 
     // The sheets are to lack the mark. Returns how many acts then stand.
     pub fn bar(&mut self, mark: Mark) -> Result<u8, Refusal>
-        ensures acts { Added judging self.old.acts (BarAct mark) result self.new.acts }
+        ensures acts { Added J.judging self.old.acts (BarAct mark) result self.new.acts }
         ensures scale { self.new.scale ≡ self.old.scale }
     {
         self.acts.add(Act::Bar(mark))
@@ -46,7 +46,7 @@ impl<J: Judge, S: Scale> Marking<J, S> {
 
     // The sheet is not to be this one. Returns how many acts then stand.
     pub fn strike(&mut self, sheet: Sheet) -> Result<u8, Refusal>
-        ensures acts { Added judging self.old.acts (StrikeAct sheet) result self.new.acts }
+        ensures acts { Added J.judging self.old.acts (StrikeAct sheet) result self.new.acts }
         ensures scale { self.new.scale ≡ self.old.scale }
     {
         self.acts.add(Act::Strike(sheet))

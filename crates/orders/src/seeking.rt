@@ -24,7 +24,7 @@ pub struct Seeking<J, S> {
 impl<J: Judge, S: Scale> Seeking<J, S> {
     // Takes so many steps, or those that remain if fewer.
     pub fn advance(&mut self, most: u16) -> Progress<S::Cost>
-        ensures search { Advanced (held_to judging self.old.acts) (scaling self.old.scale) most self.old.search result self.new.search }
+        ensures search { Advanced (held_to J.judging self.old.acts) (S.scaling self.old.scale) most self.old.search result self.new.search }
         ensures acts { self.new.acts ≡ self.old.acts }
         ensures scale { self.new.scale ≡ self.old.scale }
     {
@@ -40,7 +40,7 @@ impl<J: Judge, S: Scale> Seeking<J, S> {
 
     // Takes the steps that remain.
     pub fn settle(self) -> Settled<J, S>
-        ensures search { Settling (held_to judging self.acts) (scaling self.scale) self.search result.held }
+        ensures search { Settling (held_to J.judging self.acts) (S.scaling self.scale) self.search result.held }
         ensures acts { result.acts ≡ self.acts }
         ensures scale { result.scale ≡ self.scale }
     {

@@ -18,7 +18,7 @@ pub struct Settled<J, S> {
 impl<J: Judge, S: Scale> Settled<J, S> {
     // The sheet that was held at the end and its cost, or no sheet.
     pub fn answer(&self) -> Option<(Sheet, S::Cost)>
-        ensures { result ≡ priced (scaling self.now.scale) self.now.held }
+        ensures { result ≡ priced (S.scaling self.now.scale) self.now.held }
     {
         with_cost(&self.scale, self.held)
     }

@@ -37,15 +37,15 @@ fn dismiss(search: Search, held: Option<Sheet>) -> Search
 
 // What the sheet costs.
 fn sheet_cost<S: Scale>(scale: &S, sheet: Sheet) -> S::Cost
-    ensures { result ≡ (scaling scale.now).cost sheet }
+    ensures { result ≡ (S.scaling scale.now).cost sheet }
 {
     scale.floor(PartSheet::of_sheet(sheet))
 }
 
 // A sheet is held, and the floor of the place is not below its cost.
 fn is_too_dear<S: Scale>(scale: &S, held: Option<Sheet>, cost: S::Cost, place: PartSheet) -> bool
-    requires { cost ≡ held_cost (scaling scale.now) held }
-    ensures { result ≡ too_dear (scaling scale.now) held ((scaling scale.now).floor place.present place.absent) }
+    requires { cost ≡ held_cost (S.scaling scale.now) held }
+    ensures { result ≡ too_dear (S.scaling scale.now) held ((S.scaling scale.now).floor place.present place.absent) }
 {
     match held {
         None => false,
@@ -55,8 +55,8 @@ fn is_too_dear<S: Scale>(scale: &S, held: Option<Sheet>, cost: S::Cost, place: P
 
 // The judge calls the place dead, or a sheet is held and the floor of the place is not below its cost.
 fn is_dismissed<J: Judge, S: Scale>(judge: &J, scale: &S, search: Search, cost: S::Cost) -> bool
-    requires { cost ≡ held_cost (scaling scale.now) search.held }
-    ensures { result ≡ dismisses (judging judge.now) (scaling scale.now) search }
+    requires { cost ≡ held_cost (S.scaling scale.now) search.held }
+    ensures { result ≡ dismisses (J.judging judge.now) (S.scaling scale.now) search }
 {
     let place = search.place(judge.count());
     judge.dead(place) || is_too_dear(scale, search.held, cost, place)
@@ -70,9 +70,9 @@ fn step<J: Judge, S: Scale>(
     cost: S::Cost,
 ) -> (Search, S::Cost)
     requires within { search.decided ≤ width }
-    requires cost { cost ≡ held_cost (scaling scale.now) search.held }
-    ensures search { result.0 ≡ stepped (judging judge.now) (scaling scale.now) search }
-    ensures cost { result.1 ≡ held_cost (scaling scale.now) result.0.held }
+    requires cost { cost ≡ held_cost (S.scaling scale.now) search.held }
+    ensures search { result.0 ≡ stepped (J.judging judge.now) (S.scaling scale.now) search }
+    ensures cost { result.1 ≡ held_cost (S.scaling scale.now) result.0.held }
 {
     if is_dismissed(judge, scale, search, cost) {
         (dismiss(search, search.held), cost)
@@ -92,7 +92,7 @@ fn step<J: Judge, S: Scale>(
 
 // The cost of the sheet that is held; where none is, of the empty sheet.
 fn held_cost<S: Scale>(scale: &S, held: Option<Sheet>) -> S::Cost
-    ensures { result ≡ held_cost (scaling scale.now) held }
+    ensures { result ≡ held_cost (S.scaling scale.now) held }
 {
     match held {
         None => sheet_cost(scale, 0),
@@ -102,7 +102,7 @@ fn held_cost<S: Scale>(scale: &S, held: Option<Sheet>) -> S::Cost
 
 // The sheet that is held with its cost, if there is one.
 pub(crate) fn with_cost<S: Scale>(scale: &S, held: Option<Sheet>) -> Option<(Sheet, S::Cost)>
-    ensures { result ≡ priced (scaling scale.now) held }
+    ensures { result ≡ priced (S.scaling scale.now) held }
 {
     match held {
         None => None,
@@ -118,7 +118,7 @@ pub(crate) fn walk<J: Judge, S: Scale>(
     most: u16,
 ) -> (u16, Search)
     requires { from.decided ≤ width }
-    ensures walked { Walked (judging judge.now) (scaling scale.now) most from result.0 result.1 }
+    ensures walked { Walked (J.judging judge.now) (S.scaling scale.now) most from result.0 result.1 }
     ensures within { result.1.decided ≤ width }
 {
     let mut search = from;
@@ -136,7 +136,7 @@ pub(crate) fn walk<J: Judge, S: Scale>(
 // The steps that remain.
 pub(crate) fn finish<J: Judge, S: Scale>(judge: &J, scale: &S, from: Search) -> Search
     requires { from.decided ≤ width }
-    ensures { Ended (judging judge.now) (scaling scale.now) from result }
+    ensures { Ended (J.judging judge.now) (S.scaling scale.now) from result }
 {
     let mut search = from;
     let mut cost = held_cost(scale, from.held);

@@ -26,7 +26,7 @@ fn marking_turn<J: Judge + Drop, S: Scale + Drop>(
     marking: Marking<J, S>,
     call: Call,
 ) -> Option<(Order<J, S>, Answer<S::Cost>)>
-    ensures { Answered judging scaling (MarkingOrder marking) call result }
+    ensures { Answered J.judging S.scaling (MarkingOrder marking) call result }
 {
     let mut order = marking;
     match call {
@@ -55,7 +55,7 @@ fn seeking_turn<J: Judge + Drop, S: Scale + Drop>(
     seeking: Seeking<J, S>,
     call: Call,
 ) -> Option<(Order<J, S>, Answer<S::Cost>)>
-    ensures { Answered judging scaling (SeekingOrder seeking) call result }
+    ensures { Answered J.judging S.scaling (SeekingOrder seeking) call result }
 {
     let mut order = seeking;
     match call {
@@ -77,7 +77,7 @@ fn settled_turn<J: Judge + Drop, S: Scale + Drop>(
     settled: Settled<J, S>,
     call: Call,
 ) -> Option<(Order<J, S>, Answer<S::Cost>)>
-    ensures { Answered judging scaling (SettledOrder settled) call result }
+    ensures { Answered J.judging S.scaling (SettledOrder settled) call result }
 {
     match call {
         Call::Reopen => Some((Order::Marking(settled.reopen()), Answer::Moved)),
@@ -90,7 +90,7 @@ pub(crate) fn turn<J: Judge + Drop, S: Scale + Drop>(
     order: Order<J, S>,
     call: Call,
 ) -> Option<(Order<J, S>, Answer<S::Cost>)>
-    ensures { Answered judging scaling order call result }
+    ensures { Answered J.judging S.scaling order call result }
 {
     match order {
         Order::Marking(marking) => marking_turn(marking, call),

@@ -10,7 +10,7 @@ use Rattle.rulefile.specs.declared.files.RuleFile.{RuleFile}
 use Rattle.rulefile.specs.declared.records.Kind.{Kind}
 use Rattle.rulefile.specs.declared.records.Kind.TheVariants.{Head, Rule, Clause, Wish, Act as ActKind}
 use Rattle.rulefile.specs.Model.{FileModel}
-use Rattle.rulefile.specs.Parser.{Parse, took, after, little}
+use Rattle.rulefile.specs.Parser.{Parse, took, little}
 use Rattle.rulefile.specs.Format.{head_body, rule_body, clause_body, wish_body, act_body, kind_of, room_at, head_alone, with_rule, with_clause, with_wish, with_act, first_body, later_body, first, later, cut, records, decode}
 use Rattle.rulefile.specs.Answers.{file_of, Reads}
 use Rattle.rulefile.specs.Reading.{Takes, Reading}
