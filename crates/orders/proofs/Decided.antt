@@ -1,9 +1,9 @@
 -- The place of a search as a part-sheet: its marks, the sheets within it, and the sheets before it.
-use Rattle.std.proofs.Common.{◌≡◌, ℕ, ◌-◌, ◌^◌, ◌<◌, ◌≤◌, min, Bool, true, false, not, ◌&&◌, ◌||◌, ◌⊎◌, sym, ap, ◌∙◌, subst, inl, inr, ⊎_elim, arith, pow_mono}
-use lib.Bits.{bit_and, bit_or, and_lt, or_lt}
+use Rattle.std.proofs.Common.{◌≡◌, ℕ, ◌-◌, ◌^◌, ◌<◌, ◌≤◌, min, true, false, not, ◌||◌, ◌⊎◌, sym, ap, ◌∙◌, inl, inr, ⊎_elim, arith, pow_mono}
+use lib.Bits.{and_lt, or_lt}
 use lib.Pow.{ones_lt}
-use Rattle.std.proofs.lemmas.Bool.{both_ways, cases_lt, cases_Bool, and_parts, and_from, and_left, or_cases, or_left, or_right, not-true}
-use Rattle.sheets.specs.Sheets.{width, has, others, Apart, MarksBelow, Part, Within, Full}
+use Rattle.std.proofs.lemmas.Bool.{both_ways, cases_lt, cases_Bool, and_parts, and_from, and_left, or_cases, or_left, or_right}
+use Rattle.sheets.specs.Sheets.{width, has, others, MarksBelow, Part, Within, Full}
 use Rattle.sheets.specs.Bits.{has_high, has_and, has_or, has_first, below_marks, marks_below, same_marks}
 use Rattle.sheets.specs.Parts.{others_word, has_others, others_apart, deciding_apart}
 use Rattle.orders.specs.declared.search.Search.{Search}

@@ -1,5 +1,5 @@
 -- The docket: one act more, and one less.
-use Rattle.std.proofs.Common.{◌≡◌, ℕ, suc, ◌+◌, ◌-◌, ◌<◌, ◌≤◌, Bool, true, false, cond, ◌&&◌, leb, List, [], ◌∷◌, ◌++◌, length, get_or, take, set, Some, None, Ok, Option, sym, refl, ap, ◌∙◌, arith}
+use Rattle.std.proofs.Common.{◌≡◌, ℕ, ◌+◌, ◌-◌, ◌<◌, ◌≤◌, Bool, true, false, cond, List, [], ◌∷◌, ◌++◌, length, get_or, take, set, Some, None, Option, sym, refl, ap, ◌∙◌, arith}
 use Rattle.std.proofs.lemmas.List.{length-take-le, length_push, take_more, take_more_set}
 use Rattle.std.proofs.lemmas.Bool.{and_parts, and_from, leb-false, lt-ltb}
 use Rattle.sheets.specs.Lists.{all}
@@ -10,7 +10,7 @@ use Rattle.orders.specs.declared.acts.Refusal.{Refusal}
 use Rattle.orders.specs.declared.acts.Refusal.TheVariants.{MarkRange, MarkTaken, SheetStruck, DocketFull}
 use Rattle.orders.specs.declared.docket.Docket.{Docket}
 use Rattle.orders.specs.Acts.{most_acts, in_range}
-use Rattle.orders.specs.Dockets.{beyond, applies, first_that, refused_act, unless, taken, undo_refused, undone, returned}
+use Rattle.orders.specs.Dockets.{beyond, applies, first_that, refused_act, unless, taken, undo_refused, undone}
 use Rattle.orders.specs.Models.{standing}
 
 pub standing_length : (d : Docket) → length (standing d) ≡ d.len

@@ -1,5 +1,5 @@
 -- What every search keeps: the sheet that is held is the best of those before the place.
-use Rattle.std.proofs.Common.{◌≡◌, ℕ, ◌+◌, ◌^◌, ◌<◌, ◌≤◌, Bool, true, false, ◌⊎◌, Some, None, Option, sym, refl, ap, ◌∙◌, subst, inl, inr, ⊎_elim, arith, pow_mono}
+use Rattle.std.proofs.Common.{◌≡◌, ℕ, ◌+◌, ◌^◌, ◌<◌, ◌≤◌, true, false, ◌⊎◌, Some, None, Option, sym, refl, ap, ◌∙◌, subst, inl, inr, ⊎_elim, arith, pow_mono}
 use Rattle.std.proofs.lemmas.Bool.{both_ways, cases_lt, cases_Bool, or_cases, or_parts, not-true, not-false}
 use Rattle.sheets.specs.Sheets.{has, MarksBelow, Part, Within, Full, Earlier}
 use Rattle.sheets.specs.Judging.{Judging, JudgeLaws}
@@ -7,7 +7,7 @@ use Rattle.sheets.specs.Scaling.{Scaling, ScaleLaws}
 use Rattle.sheets.specs.Bits.{has_high, marks_below, same_marks}
 use Rattle.orders.specs.declared.search.Search.{Search}
 use Rattle.orders.specs.Searches.{start, present_at, absent_at, dismissed, too_dear, dead_at, dear_at, dismisses, stepped, Steps, none, more, Ended, priced}
-use Rattle.orders.specs.Best.{Cheapest, Best, NoLess}
+use Rattle.orders.specs.Best.{Best}
 use Rattle.orders.proofs.Dismissals.{Well, Agrees, Precedes, Past, UpTo, dismissed_held, dismissed_well, precedes_on, past_from, past_to}
 use Rattle.orders.proofs.Decided.{present_same, place_part, place_within, place_full}
 use Rattle.orders.proofs.Walks.{deeper, step_cases, steps_join}

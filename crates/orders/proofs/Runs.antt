@@ -1,5 +1,5 @@
 -- Runs of an order, call by call, and what they keep.
-use Rattle.std.proofs.Common.{◌≡◌, ℕ, suc, ◌+◌, ◌≤◌, true, cond, List, [], ◌∷◌, ◌++◌, length, sym, refl, ap, ◌∙◌, subst, ap₂, arith}
+use Rattle.std.proofs.Common.{◌≡◌, ℕ, suc, ◌+◌, ◌≤◌, true, List, [], ◌∷◌, ◌++◌, length, sym, refl, ap, ◌∙◌, subst, arith}
 use Rattle.std.proofs.lemmas.Bool.{cond-true}
 use Rattle.sheets.specs.Lists.{all}
 use Rattle.sheets.specs.Sheets.{width}
@@ -14,7 +14,6 @@ use Rattle.orders.specs.declared.calls.Event.{Event}
 use Rattle.orders.specs.declared.search.Search.{Search}
 use Rattle.orders.specs.Acts.{in_range, under}
 use Rattle.orders.specs.Searches.{start, Steps, none}
-use Rattle.orders.specs.Calls.{Advanced}
 use Rattle.orders.specs.Stages.{Stage, marking, seeking, settled, stage_of, leads_to, same_stage, allowed}
 use Rattle.orders.specs.Logs.{fed, fed_all, calls_of, steps_in, spent_more, spent_from}
 use Rattle.orders.specs.Turns.{State, Turn}

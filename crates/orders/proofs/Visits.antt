@@ -5,7 +5,7 @@ use Rattle.sheets.specs.Sheets.{has, MarksBelow, Within, Earlier}
 use Rattle.sheets.specs.Judging.{Judging, JudgeLaws}
 use Rattle.sheets.specs.Scaling.{Scaling, ScaleLaws}
 use Rattle.orders.specs.declared.search.Search.{Search}
-use Rattle.orders.specs.Searches.{start, present_at, absent_at, too_dear, dead_at, dear_at, dismisses, stepped, Steps}
+use Rattle.orders.specs.Searches.{start, present_at, absent_at, too_dear, dead_at, dear_at, dismisses, stepped}
 use Rattle.orders.specs.Theorems.{SearchEnds, BeforeAt, Passed, SearchInOrder}
 use Rattle.orders.proofs.Dismissals.{Well, Agrees, Precedes, Past, dismissed_held, past_from}
 use Rattle.orders.proofs.Decided.{place_within, precedes_lies, lies_precedes}

@@ -1,5 +1,5 @@
 -- One step by its three cases, and steps one after another.
-use Rattle.std.proofs.Common.{◌≡◌, ℕ, zero, suc, ◌+◌, ◌<◌, ◌≤◌, true, false, cond, leb, Some, sym, refl, ap, ◌∙◌, subst, suc-add, zero-add, arith}
+use Rattle.std.proofs.Common.{◌≡◌, ℕ, suc, ◌+◌, ◌<◌, ◌≤◌, true, false, cond, leb, Some, sym, refl, ap, ◌∙◌, subst, suc-add, zero-add, arith}
 use Rattle.std.proofs.lemmas.Bool.{both_ways, cond_both, cond-true, cond-false, le-leb, lt-leb, leb-true, leb-false}
 use Rattle.sheets.specs.Judging.{Judging}
 use Rattle.sheets.specs.Scaling.{Scaling}

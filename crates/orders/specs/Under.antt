@@ -1,6 +1,6 @@
 -- The judge that is held to acts: its laws, and what more acts change.
-use Rattle.std.specs.Prelude.{◌≡◌, ℕ, true, false, ◌||◌, List, [], ◌∷◌, ◌++◌, Some, None, Option, ◌==◌, refl}
-use Rattle.std.proofs.Common.{sym, ap, subst, ◌∙◌, ⊎_elim}
+use Rattle.std.specs.Prelude.{◌≡◌, ℕ, true, false, List, [], ◌∷◌, ◌++◌, Some, None, Option, ◌==◌, refl}
+use Rattle.std.proofs.Common.{ap, subst, ◌∙◌, ⊎_elim}
 use Rattle.std.proofs.lemmas.Bool.{both_ways, or_cases, or_parts, and_parts, and_cases, eqb-true, eqb-false, ltb-true}
 use Rattle.sheets.specs.Lists.{any, all}
 use Rattle.sheets.specs.Sheets.{width, has, Part, Within, Full, full}

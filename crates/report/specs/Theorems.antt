@@ -1,5 +1,5 @@
 -- What else is said of the texts in the lines.
-use Rattle.std.specs.Prelude.{◌≡◌, ℕ, ◌+◌, ◌-◌, ◌*◌, ◌^◌, ◌<◌, ◌≤◌, true, List, [], ◌∷◌, length, decimal, slice_index, slice_index_or}
+use Rattle.std.specs.Prelude.{◌≡◌, ℕ, ◌+◌, ◌-◌, ◌*◌, ◌^◌, ◌<◌, true, List, [], ◌∷◌, length, decimal, slice_index, slice_index_or}
 use Rattle.std.specs.Str.{all_ascii_digits}
 use Rattle.sheets.specs.Sheets.{width, has}
 use Rattle.report.specs.Lines.{marks}

@@ -1,11 +1,11 @@
 -- Costs compared from the top level down.
-use Rattle.std.specs.Prelude.{◌≡◌, ℕ, zero, suc, ◌-◌, ◌<◌, ◌≤◌, Bool, true, false, ◌⊎◌, List, [], ◌∷◌, get_or, ℤ, pos, ◌≤ℤ◌, ◌<ℤ◌, IsSomeAnd, int_lt, slice_index_or, refl}
+use Rattle.std.specs.Prelude.{◌≡◌, ℕ, zero, suc, ◌-◌, ◌<◌, ◌≤◌, Bool, true, false, ◌⊎◌, List, [], ◌∷◌, get_or, ℤ, pos, ◌≤ℤ◌, ◌<ℤ◌, Some, int_lt, slice_index_or, refl}
 use Rattle.std.specs.declared.cmp.Ordering.TheVariants.{Less, Equal, Greater}
 use Rattle.std.specs.declared.cmp.Ordering.{Ordering}
 use Rattle.std.proofs.Common.{sym, ap, ap₂, subst, ◌∙◌, inl, inr, ⊎_elim, arith}
-use Rattle.std.specs.Ordering.{MatchOrdering, Tested, is_lt, int_cmp}
-use Rattle.std.specs.Cmp.Lexicographic.{LexSome}
-use Rattle.std.proofs.lemmas.Cmp.{same_from_slice_cmp_tested}
+use Rattle.std.specs.Ordering.{MatchOrdering, is_lt, is_some_and, int_cmp}
+use Rattle.std.specs.Cmp.Lexicographic.{slice_partial_cmp}
+use Rattle.std.proofs.lemmas.Cmp.{same_from_slice_cmp_tested, int_ranked}
 use Rattle.std.proofs.lemmas.Int.{ints, by_lt_z}
 use Rattle.std.proofs.lemmas.Bool.{both_ways, cases_eq}
 use Rattle.sheets.specs.Scaling.{OrderLaws}
@@ -102,8 +102,8 @@ module _ (g h : ℕ → ℤ) where
 
 -- ---- `<` on arrays
 
-pub less_tested : (a b : List ℤ) (r : Bool) → Tested (LexSome (λ x y o. IsSomeAnd o (λ k. MatchOrdering k (x <ℤ y) (x ≡ y) (y <ℤ x))) a b) is_lt r → r ≡ first_less a b
-less_tested = same_from_slice_cmp_tested int_cmp is_lt first_less refl (λ _ _. refl) (λ _ _. refl) more
+pub less_tested : (a b : List ℤ) (r : Bool) → r ≡ is_some_and is_lt (slice_partial_cmp (λ x y. Some (int_cmp x y)) a b) → r ≡ first_less a b
+less_tested = same_from_slice_cmp_tested int_cmp is_lt first_less refl (λ _ _. refl) (λ _ _. refl) (λ x y xs ys o e. more x y xs ys o (int_ranked x y o e))
   where
     more : (x y : ℤ) (xs ys : List ℤ) (o : Ordering) → MatchOrdering o (x <ℤ y) (x ≡ y) (y <ℤ x)
         → MatchOrdering o (first_less (x ∷ xs) (y ∷ ys) ≡ true) (first_less (x ∷ xs) (y ∷ ys) ≡ first_less xs ys) (first_less (x ∷ xs) (y ∷ ys) ≡ false)

@@ -1,5 +1,7 @@
 // What a sheet costs at each level.
 ghost use Rattle.std.specs.Prelude.{◌≡◌, Decides};
+ghost use Rattle.std.specs.Cmp.Lexicographic.{pointwise};
+ghost use Rattle.std.specs.Ordering.{int_eq};
 ghost use Rattle.scales.specs.Wishes.{cost_at, first_less};
 ghost use Rattle.std.specs.Cmp.Rules.{comparing};
 ghost use Rattle.std.proofs.Common.{rules};
@@ -11,11 +13,14 @@ pub struct LevelCost {
 }
 
 impl PartialEq for LevelCost {
-    ghost equals = { λ x y r. Decides r (x ≡ y) };
+    ghost eq = { λ x y. pointwise int_eq x.levels y.levels };
 
     ghost laws = { Prim.search (comparing, rules) };
 
-    fn eq(&self, other: &LevelCost) -> bool {
+    fn eq(&self, other: &LevelCost) -> bool
+        ensures value { result ≡ pointwise int_eq self.now.levels other.now.levels }
+        ensures meaning { Decides result (self.now ≡ other.now) }
+    {
         self.levels == other.levels
     }
 }

@@ -1,11 +1,11 @@
-use Rattle.std.proofs.Common.{◌≡◌, ℕ, ◌+◌, ◌≤◌, List, ◌++◌, length, drop, Ok, Err, vec_items, Result, sym, refl, ap, ◌∙◌, subst, arith, rules}
+use Rattle.std.proofs.Common.{◌≡◌, ℕ, ◌+◌, ◌≤◌, List, ◌++◌, length, drop, Ok, Err, Result, sym, refl, ap, ◌∙◌, subst, arith, rules}
 use Rattle.rulefile.specs.declared.refusals.BadFile.{BadFile}
 use Rattle.rulefile.specs.Answers.{file_of}
 use Rattle.rulefile.specs.Model.{FileModel}
 use Rattle.rulefile.specs.Format.{decode}
 use Rattle.report.specs.Lines.{bad_file_line}
 use Rattle.report.specs.Logs.{log_text}
-use Rattle.report.specs.Reports.{Lines, Fitting, Written}
+use Rattle.report.specs.Reports.{Fitting, Written}
 use Rattle.report.specs.Writing.{Fits, Puts}
 use Rattle.report.proofs.Lengths.{bad_file_short}
 use Rattle.report.proofs.Only.{lines_one}
@@ -35,13 +35,13 @@ put_bad_file-requires c = bad_fits c.args.out.now _ c.if-out-lt-LEAST_BUFFER.fal
 pub put_log-requires : goal.put_log-requires
 put_log-requires c =
     let same = ap (λ l. length (log_text l)) c.as_slice.ensures.value in
-    record { room = omega (arith, same, c.in_ok-log.ensures.short, c.if-out-lt-LEAST_BUFFER.false) }
+    record { room = omega (arith, same, c.in_ok-log-in-Ok.ensures.short, c.if-out-lt-LEAST_BUFFER.false) }
 
-pub returns-in_ok-log : goal.returns-in_ok-log
-returns-in_ok-log c =
+pub returns-in_ok-log-in-Ok : goal.returns-in_ok-log-in-Ok
+returns-in_ok-log-in-Ok c =
     written c.args.file.now c.args.out.now (log_text c.as_slice.result.now) c.put_log.new.out c.put_log.result (Ok (file_of c.in-Ok.rules)) c.if-out-lt-LEAST_BUFFER.false
     c.in-Ok.ensures.meaning
-    (subst (λ l. Fitting (Ok (file_of c.in-Ok.rules)) (log_text l)) (sym c.as_slice.ensures.value) c.in_ok-log.ensures)
+    (subst (λ l. Fitting (Ok (file_of c.in-Ok.rules)) (log_text l)) (sym c.as_slice.ensures.value) c.in_ok-log-in-Ok.ensures)
     c.put_log.ensures
 
 pub returns-in-Err-Refused : goal.returns-in-Err-Refused

@@ -1,4 +1,4 @@
-use Rattle.std.proofs.Common.{◌≡◌, ◌-◌, ◌<◌, ◌≤◌, take, Ok, sym, ap, ◌∙◌, arith}
+use Rattle.std.proofs.Common.{◌-◌, ◌<◌, ◌≤◌, take, Ok, sym, ap, ◌∙◌, arith}
 use Rattle.sheets.specs.Lists.{all}
 use Rattle.orders.specs.Acts.{most_acts, in_range}
 use Rattle.orders.specs.Dockets.{returned}
