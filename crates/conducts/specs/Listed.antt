@@ -1,10 +1,10 @@
 -- The laws of a table.
-use Rattle.std.specs.Prelude.{◌≡◌, ℕ, ◌^◌, ◌<◌, ◌≤◌, true, false, not, ◌&&◌, List, [], ◌∷◌, ◌==◌, bit_and, nat_eq, refl}
+use Rattle.std.specs.Prelude.{◌≡◌, ℕ, ◌^◌, ◌<◌, ◌≤◌, true, List, [], ◌∷◌, ◌==◌, bit_and, nat_eq, refl}
 use Rattle.std.proofs.Common.{sym, ap, ◌∙◌, ⊎_elim, arith, pow_mono}
 use Rattle.std.specs.Int.Bits.{and_lt}
 use Rattle.std.proofs.lemmas.Bool.{both_ways, cases_Bool, and_from, and_parts, and_left, or_cases, or_left, or_right, not-true, not-false, ltb-true, eqb-true, eq-eqb}
 use Rattle.sheets.specs.Lists.{all, any}
-use Rattle.sheets.specs.Sheets.{width, has, Part, Within, Full, Subset, Apart}
+use Rattle.sheets.specs.Sheets.{width, has, Part, Within, Full, Subset}
 use Rattle.sheets.specs.Judging.{JudgeLaws}
 use Rattle.sheets.specs.Bits.{has_and, same_marks, below_marks}
 use Rattle.sheets.specs.Parts.{apart_from_and, and_from_apart, within_itself, within_full}
