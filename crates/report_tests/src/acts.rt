@@ -1,6 +1,7 @@
 // Acts at the limits of marks and of the docket, where the one lawful sheet has all 64 marks.
 use crate::build::*;
 use std::process::Abort;
+use std::test::Fail;
 
 // The pins of these marks have these lines.
 fn check_pins(rt: &(impl Abort + AllocGlobal), marks: &[u8], lines: &str) -> Result<(), Fail> {

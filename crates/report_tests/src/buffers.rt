@@ -3,6 +3,7 @@ use crate::build::*;
 use report::{LEAST_BUFFER, Refusal, ReportError, report};
 use std::alloc::Global;
 use std::process::Abort;
+use std::test::Fail;
 
 // A buffer of 4,095 bytes is refused whatever the file is, and stays.
 fn check_small(rt: &impl Abort, heap: Global, file: &[u8]) -> Result<(), Fail> {

@@ -1,6 +1,7 @@
 // The lines of small files, and of the file whose report is longest.
 use crate::build::*;
 use std::alloc::{AllocError, Global};
+use std::test::Fail;
 
 #[test]
 fn worked_example(rt: HostRuntime) -> Result<(), Fail> {

@@ -2,6 +2,7 @@
 use crate::build::*;
 use std::alloc::Global;
 use std::process::Abort;
+use std::test::Fail;
 
 // A good body for each kind after the head, with each act.
 const GOOD: [(u16, &[u8]); 8] = [

@@ -1,5 +1,6 @@
 // Refusals that do not depend on a field of a body.
 use crate::build::*;
+use std::test::Fail;
 
 // Faults of the first record are at 0.
 #[test]

@@ -3,6 +3,7 @@ use crate::build::*;
 use crate::values::sizes;
 use std::alloc::{AllocError, Global};
 use std::process::Abort;
+use std::test::Fail;
 
 // The smallest body of each kind after the head, and the offset after a head and 256 such records.
 const SMALLEST: [(u16, &[u8], u32); 4] = [

@@ -1,5 +1,6 @@
 // The ends of each range after the head: what is just inside is read, what is just outside is 18.
 use crate::build::*;
+use std::test::Fail;
 
 #[test]
 fn levels(rt: HostRuntime) -> Result<(), Fail> {

@@ -3,6 +3,7 @@ use crate::build::*;
 use rulefile::{Act, Kind, Refusal, RuleFile, read_or_head_alone};
 use sheets::Literal;
 use std::process::Abort;
+use std::test::Fail;
 
 // The example of docs/FORMAT.md: head, rule, wish, pin and bar.
 const WORKED: &[u8; 64] = b"\x0b\0\0\0\x01\0\x04\0\0\0\0\0\0\0\0\
