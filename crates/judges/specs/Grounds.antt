@@ -2,7 +2,7 @@
 use Rattle.std.specs.Prelude.{◌≡◌, ℕ, zero, suc, ◌-◌, ◌<◌, Bool, true, false, cond, not, ◌||◌, List, [], ◌∷◌, length, Decides, ◌==◌, ◌≢◌, slice_index_or}
 use Rattle.std.proofs.Math.Path.{refl}
 use Rattle.std.proofs.Common.{ap, subst, ◌∙◌, ⊎_elim, arith}
-use Rattle.std.specs.List.{AllByRecursion as All}
+use Rattle.std.specs.List.{AllByRecursion}
 use Rattle.std.proofs.lemmas.Bool.{both_ways, cases_Bool, cases_order, and_from, and_parts, or_from, or_parts, not-true, eqb-true, eqb-false}
 use Rattle.std.proofs.ByRecursion.{Decides-by_and}
 use Rattle.judges.specs.declared.verdicts.Verdict.{Verdict}
@@ -57,10 +57,10 @@ decides_obeys s h = (yes_of (all (reaches s) h.body), from (all (reaches s) h.bo
     from true f = f refl
     from false f = refl
 
-decides_all_obey : (s : ℕ) (hs : List Horn) → Decides (all (obeys s) hs) (All (Obeys s) hs)
+decides_all_obey : (s : ℕ) (hs : List Horn) → Decides (all (obeys s) hs) (AllByRecursion (Obeys s) hs)
 decides_all_obey s hs = Decides-by_and (obeys s) (Obeys s) (all (obeys s)) (decides_obeys s) refl (λ _ _. refl) hs
 
-pub obeyed : (s : ℕ) (hs : List Horn) → all (obeys s) hs ≡ true → All (Obeys s) hs
+pub obeyed : (s : ℕ) (hs : List Horn) → all (obeys s) hs ≡ true → AllByRecursion (Obeys s) hs
 obeyed s hs t = (decides_all_obey s hs).0 t
 
 below_none : (test : ℕ → Bool) (n : ℕ) → one_below test n ≡ false → (k : ℕ) → k < n → test k ≡ false

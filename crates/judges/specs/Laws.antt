@@ -2,7 +2,7 @@
 use Rattle.std.specs.Prelude.{◌≡◌, ℕ, ◌-◌, ◌^◌, ◌<◌, ◌≤◌, true, false, not, ◌&&◌, List, [], ◌∷◌, Some, None, Option, ◌≢◌, bit_and, nat_le, nat_lt, refl}
 use Rattle.std.proofs.Common.{ap, subst, ◌∙◌, ⊎_elim, arith}
 use Rattle.std.specs.Int.Bits.{mask_lt}
-use Rattle.std.specs.List.{AllByRecursion as All}
+use Rattle.std.specs.List.{AllByRecursion}
 use Rattle.std.proofs.ByRecursion.{All-append}
 use Rattle.std.proofs.lemmas.Bool.{both_ways, cases_Bool, and_from, and_parts, and_cases, and_left, and_right, or_cases, or_parts, or_from, not-true, not-false, leb-true, le-leb, lt-leb, ltb-true}
 use Rattle.sheets.specs.Lists.{all, any}
@@ -30,18 +30,18 @@ module _ (z n : ℕ) where
   unfolding low
   low_has i t lt = has_and z (2 ^ n - 1) i ∙ and_from (has z i) (has (2 ^ n - 1) i) t (has_first n i lt)
 
-  low_heads : (es : List Element) → All (λ (e : Element). e.literal.mark < n) es → HeadsIn z z es → HeadsIn z low es
+  low_heads : (es : List Element) → AllByRecursion (λ (e : Element). e.literal.mark < n) es → HeadsIn z z es → HeadsIn z low es
   low_heads [] h a = tt
   low_heads (e ∷ es) h a = (λ p. low_has e.literal.mark (a.0 p) h.0, low_heads es h.1 a.1)
 
-  low_obeys : (program : List RuleModel) → All (RuleBelow n) program → All (Obeys low) (reduct z program)
+  low_obeys : (program : List RuleModel) → AllByRecursion (RuleBelow n) program → AllByRecursion (Obeys low) (reduct z program)
   low_obeys [] h = tt
   low_obeys (r ∷ rs) h =
       All-append (Obeys low) (reduct_of_rule z r) (reduct z rs)
       (rule_to z low r (λ _. low_heads r.head.elements h.0.0 (heads_inside z r.head.elements)))
       (low_obeys rs h.1)
 
-  pub inside : (program : List RuleModel) → All (RuleBelow n) program → AnswerSet program z → MarksBelow n z
+  pub inside : (program : List RuleModel) → AllByRecursion (RuleBelow n) program → AnswerSet program z → MarksBelow n z
   unfolding low
   inside program h a =
       let le = subset_le z low (a.grounded.least low (low_obeys program h)) in

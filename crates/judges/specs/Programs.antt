@@ -1,7 +1,7 @@
 -- Programs with weight constraints: what holds in a sheet, the reduct, the deductive closure and the answer sets,
 -- as Ferraris and Lifschitz define them in "Weight Constraints as Nested Expressions".
 use Rattle.std.specs.Prelude.{◌≡◌, ℕ, ◌+◌, ◌-◌, Bool, true, cond, not, ◌&&◌, ◌||◌, List, [], ◌∷◌, map, Some, None, filter, Option, nat_le}
-use Rattle.std.specs.List.{flat_map, AllByRecursion as All}
+use Rattle.std.specs.List.{flat_map, AllByRecursion}
 use Rattle.sheets.specs.declared.literals.Literal.{Literal}
 use Rattle.sheets.specs.Lists.{all}
 use Rattle.sheets.specs.Sheets.{has, Subset}
@@ -77,8 +77,8 @@ Obeys s h = all (reaches s) h.body ≡ true → has s h.mark ≡ true
 
 -- the least set that satisfies a Horn program
 pub record Closure (program : List Horn) (s : ℕ) : Type 0 where
-  pub obeys : All (Obeys s) program
-  pub least : (t : ℕ) → All (Obeys t) program → Subset s t
+  pub obeys : AllByRecursion (Obeys s) program
+  pub least : (t : ℕ) → AllByRecursion (Obeys t) program → Subset s t
 
 -- z satisfies the program, and is the closure of its own reduct
 pub record AnswerSet (program : List RuleModel) (z : ℕ) : Type 0 where

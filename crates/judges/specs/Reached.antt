@@ -1,7 +1,7 @@
 -- The rounds, and the closure that they reach.
 use Rattle.std.specs.Prelude.{◌≡◌, ℕ, ◌+◌, ◌-◌, ◌^◌, ◌<◌, ◌≤◌, Bool, true, false, cond, not, ◌&&◌, List, [], ◌∷◌, ◌++◌, map, filter, ◌≢◌, bit_or, nat_le, refl}
 use Rattle.std.proofs.Common.{sym, ap, subst, ◌∙◌, ⊎_elim, arith}
-use Rattle.std.specs.List.{AllByRecursion as All}
+use Rattle.std.specs.List.{AllByRecursion}
 use Rattle.std.proofs.ByRecursion.{All-append}
 use Rattle.std.proofs.lemmas.Bool.{both_ways, and_from, and_parts, cases_lt, leb-true, le-leb}
 use Rattle.sheets.specs.declared.literals.Literal.{Literal}
@@ -94,38 +94,38 @@ abbrev picked : ℕ → Element → Bool
 picked z e = plain e.literal && holds z e.literal
 
 abbrev pub HeadsIn : ℕ → ℕ → List Element → Type 0
-HeadsIn z t es = All (λ e. picked z e ≡ true → has t e.literal.mark ≡ true) es
+HeadsIn z t es = AllByRecursion (λ e. picked z e ≡ true → has t e.literal.mark ≡ true) es
 
 abbrev horn : ℕ → List ConstraintModel → Element → Horn
 horn z ks e = record { mark = e.literal.mark; body = map (lowered z) ks }
 
 module _ (z t : ℕ) (ks : List ConstraintModel) where
-  heads_from : all (reaches t) (map (lowered z) ks) ≡ true → (es : List Element) → All (Obeys t) (map (horn z ks) (filter (picked z) es)) → HeadsIn z t es
+  heads_from : all (reaches t) (map (lowered z) ks) ≡ true → (es : List Element) → AllByRecursion (Obeys t) (map (horn z ks) (filter (picked z) es)) → HeadsIn z t es
   heads_from ok [] a = tt
   heads_from ok (e ∷ es) a = go (heads_from ok es) (picked z e) refl a
     where
-      go : (All (Obeys t) (map (horn z ks) (filter (picked z) es)) → HeadsIn z t es)
-          → (b : Bool) → picked z e ≡ b → All (Obeys t) (map (horn z ks) (cond b (e ∷ filter (picked z) es) (filter (picked z) es))) → HeadsIn z t (e ∷ es)
+      go : (AllByRecursion (Obeys t) (map (horn z ks) (filter (picked z) es)) → HeadsIn z t es)
+          → (b : Bool) → picked z e ≡ b → AllByRecursion (Obeys t) (map (horn z ks) (cond b (e ∷ filter (picked z) es) (filter (picked z) es))) → HeadsIn z t (e ∷ es)
       go rest true q a = (λ _. a.0 ok, rest a.1)
       go rest false q a = (λ p. absurd (both_ways (picked z e) q p), rest a)
 
-  heads_to : (es : List Element) → (all (reaches t) (map (lowered z) ks) ≡ true → HeadsIn z t es) → All (Obeys t) (map (horn z ks) (filter (picked z) es))
+  heads_to : (es : List Element) → (all (reaches t) (map (lowered z) ks) ≡ true → HeadsIn z t es) → AllByRecursion (Obeys t) (map (horn z ks) (filter (picked z) es))
   heads_to [] a = tt
   heads_to (e ∷ es) a = go (heads_to es (λ ok. (a ok).1)) (picked z e) refl
     where
-      go : All (Obeys t) (map (horn z ks) (filter (picked z) es))
-          → (b : Bool) → picked z e ≡ b → All (Obeys t) (map (horn z ks) (cond b (e ∷ filter (picked z) es) (filter (picked z) es)))
+      go : AllByRecursion (Obeys t) (map (horn z ks) (filter (picked z) es))
+          → (b : Bool) → picked z e ≡ b → AllByRecursion (Obeys t) (map (horn z ks) (cond b (e ∷ filter (picked z) es) (filter (picked z) es)))
       go rest true q = (λ ok. (a ok).0 q, rest)
       go rest false q = rest
 
-pub rule_from : (z t : ℕ) (r : RuleModel) → All (Obeys t) (reduct_of_rule z r) → all (supported z t) r.body ≡ true → HeadsIn z t r.head.elements
+pub rule_from : (z t : ℕ) (r : RuleModel) → AllByRecursion (Obeys t) (reduct_of_rule z r) → all (supported z t) r.body ≡ true → HeadsIn z t r.head.elements
 rule_from z t r a h = heads_from z t r.body (supported_reaches z t r.body h) r.head.elements
-    (subst (λ b. All (Obeys t) (cond b (map (horn z r.body) (filter (picked z) r.head.elements)) [])) (supported_open z t r.body h) a)
+    (subst (λ b. AllByRecursion (Obeys t) (cond b (map (horn z r.body) (filter (picked z) r.head.elements)) [])) (supported_open z t r.body h) a)
 
-pub rule_to : (z t : ℕ) (r : RuleModel) → (all (supported z t) r.body ≡ true → HeadsIn z t r.head.elements) → All (Obeys t) (reduct_of_rule z r)
+pub rule_to : (z t : ℕ) (r : RuleModel) → (all (supported z t) r.body ≡ true → HeadsIn z t r.head.elements) → AllByRecursion (Obeys t) (reduct_of_rule z r)
 rule_to z t r f = go (Open z r.body) refl
   where
-    go : (b : Bool) → Open z r.body ≡ b → All (Obeys t) (cond b (map (horn z r.body) (filter (picked z) r.head.elements)) [])
+    go : (b : Bool) → Open z r.body ≡ b → AllByRecursion (Obeys t) (cond b (map (horn z r.body) (filter (picked z) r.head.elements)) [])
     go true o = heads_to z t r.body r.head.elements (λ ok. f (supported_from z t r.body o ok))
     go false o = tt
 
@@ -174,7 +174,7 @@ fired_keeps z r s = go (all (supported z s) r.body)
     go true = heads_keep z r.head.elements s
     go false = λ i t. t
 
-fired_under : (z t : ℕ) (r : RuleModel) (s : ℕ) → Subset s t → All (Obeys t) (reduct_of_rule z r) → Subset (fired z r s) t
+fired_under : (z t : ℕ) (r : RuleModel) (s : ℕ) → Subset s t → AllByRecursion (Obeys t) (reduct_of_rule z r) → Subset (fired z r s) t
 fired_under z t r s u a = go (all (supported z s) r.body) refl
   where
     go : (b : Bool) → all (supported z s) r.body ≡ b → Subset (cond b (with_heads z r.head.elements s) s) t
@@ -189,7 +189,7 @@ fired_inside z r s u = go (all (supported z s) r.body)
     go false = u
 
 -- u has all that the rule gives from s, and s all of u
-fired_obeys : (z u : ℕ) (r : RuleModel) (s : ℕ) → Subset u s → Subset (fired z r s) u → All (Obeys u) (reduct_of_rule z r)
+fired_obeys : (z u : ℕ) (r : RuleModel) (s : ℕ) → Subset u s → Subset (fired z r s) u → AllByRecursion (Obeys u) (reduct_of_rule z r)
 fired_obeys z u r s us fu = rule_to z u r (λ ok. go (all (supported z s) r.body) (supported_more z u s us r.body ok) fu)
   where
     go : (b : Bool) → b ≡ true → Subset (cond b (with_heads z r.head.elements s) s) u → HeadsIn z u r.head.elements
@@ -197,7 +197,7 @@ fired_obeys z u r s us fu = rule_to z u r (λ ok. go (all (supported z s) r.body
     go false q f = absurd (both_ways false refl q)
 
 -- ---- a round
-all_split : {X : Type 0} (P : X → Type 0) (xs ys : List X) → All P (xs ++ ys) → All P xs × All P ys
+all_split : {X : Type 0} (P : X → Type 0) (xs ys : List X) → AllByRecursion P (xs ++ ys) → AllByRecursion P xs × AllByRecursion P ys
 all_split P [] ys a = (tt, a)
 all_split P (x ∷ xs) ys a = let b = all_split P xs ys a.1 in ((a.0, b.0), b.1)
 
@@ -205,7 +205,7 @@ pub round_keeps : (z : ℕ) (program : List RuleModel) (s : ℕ) → Subset s (r
 round_keeps z [] s i t = t
 round_keeps z (r ∷ rs) s i t = round_keeps z rs (fired z r s) i (fired_keeps z r s i t)
 
-pub round_under : (z t : ℕ) (program : List RuleModel) (s : ℕ) → Subset s t → All (Obeys t) (reduct z program) → Subset (round z program s) t
+pub round_under : (z t : ℕ) (program : List RuleModel) (s : ℕ) → Subset s t → AllByRecursion (Obeys t) (reduct z program) → Subset (round z program s) t
 round_under z t [] s u a = u
 round_under z t (r ∷ rs) s u a =
     let b = all_split (Obeys t) (reduct_of_rule z r) (reduct z rs) a in
@@ -215,7 +215,7 @@ pub round_inside : (z : ℕ) (program : List RuleModel) (s : ℕ) → Subset s z
 round_inside z [] s u = u
 round_inside z (r ∷ rs) s u = round_inside z rs (fired z r s) (fired_inside z r s u)
 
-pub round_obeys : (z u : ℕ) (program : List RuleModel) (s : ℕ) → Subset u s → Subset (round z program s) u → All (Obeys u) (reduct z program)
+pub round_obeys : (z u : ℕ) (program : List RuleModel) (s : ℕ) → Subset u s → Subset (round z program s) u → AllByRecursion (Obeys u) (reduct z program)
 round_obeys z u [] s us ru = tt
 round_obeys z u (r ∷ rs) s us ru =
     All-append (Obeys u) (reduct_of_rule z r) (reduct z rs)
@@ -226,7 +226,7 @@ round_obeys z u (r ∷ rs) s us ru =
 -- a set on the way to the closure: within z, and within each set that satisfies the reduct
 pub record Underway (z : ℕ) (program : List RuleModel) (s : ℕ) : Type 0 where
   pub inside : Subset s z
-  pub needed : (t : ℕ) → All (Obeys t) (reduct z program) → Subset s t
+  pub needed : (t : ℕ) → AllByRecursion (Obeys t) (reduct z program) → Subset s t
 
 module _ (z : ℕ) (program : List RuleModel) where
   pub underway_none : Underway z program 0

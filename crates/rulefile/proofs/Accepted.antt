@@ -1,6 +1,6 @@
 -- An accepted file is a sequence of records that say what it holds.
 use Rattle.std.proofs.Common.{◌≡◌, ℕ, zero, suc, ◌-◌, ◌<◌, ◌≤◌, Bool, true, false, cond, eqb, ltb, List, [], ◌∷◌, ◌++◌, map, length, Ok, Err, Result, sym, refl, ap, ◌∙◌, subst, append_assoc, append-nil, arith, length-append}
-use Rattle.std.specs.List.{flat_map, AllByRecursion as All}
+use Rattle.std.specs.List.{flat_map, AllByRecursion}
 use Rattle.std.proofs.ByRecursion.{All-push}
 use Rattle.std.proofs.lemmas.List.{length_push, map_push}
 use Rattle.std.proofs.lemmas.Bool.{ltb-true, ltb-false, eqb-true, eq-eqb}
@@ -117,7 +117,7 @@ later_took f ActKind bs e = adding_took _ _ _ bs act_ends e
 pub record Adds (f : FileModel) (rs : List RecordBytes) (g : FileModel) : Type 0 where
   pub count : f.count ≡ g.count
   pub house : f.house ≡ g.house
-  pub only : All (λ (r : RecordBytes). little r.kind ≡ 1 → ⊥) rs
+  pub only : AllByRecursion (λ (r : RecordBytes). little r.kind ≡ 1 → ⊥) rs
   pub order : map Ok f.order ++ map (λ (r : RecordBytes). kind_of (little r.kind)) rs ≡ map Ok g.order
   pub rules : map (λ x. took x []) f.rules ++ map (rule_body f.count) (bodies_of 2 rs) ≡ map (λ x. took x []) g.rules
   pub clauses : map (λ x. took x []) f.clauses ++ map (clause_body f.count) (bodies_of 3 rs) ≡ map (λ x. took x []) g.clauses
@@ -295,7 +295,7 @@ whole_took {g} {rest} p bs e =
 record Split (f : FileModel) (bs : List ℕ) (g : FileModel) : Type 0 where
   parts : List RecordBytes
   sequence : bs ≡ flat_map bytes_of parts
-  framed : All Framed parts
+  framed : AllByRecursion Framed parts
   adds : Adds f parts g
   fits : Fits g
 
@@ -317,7 +317,7 @@ records_split (suc n) size f g (b ∷ bs) h e =
     }
 
 -- the lengths of records add up to their bytes
-adds_up : (rs : List RecordBytes) → All Framed rs → length (flat_map bytes_of rs) ≡ lengths rs
+adds_up : (rs : List RecordBytes) → AllByRecursion Framed rs → length (flat_map bytes_of rs) ≡ lengths rs
 adds_up [] h = refl
 adds_up (r ∷ rs) h =
     let f = h.0 in

@@ -1,6 +1,6 @@
 -- A sequence of records that keeps the laws is accepted.
 use Rattle.std.proofs.Common.{◌≡◌, ℕ, ◌+◌, ◌-◌, ◌<◌, ◌≤◌, leb, List, [], ◌∷◌, ◌++◌, map, length, take, drop, IfOk, Ok, Err, Result, sym, refl, ap, ◌∙◌, append_assoc, arith, length-append}
-use Rattle.std.specs.List.{flat_map, AllByRecursion as All}
+use Rattle.std.specs.List.{flat_map, AllByRecursion}
 use Rattle.std.proofs.lemmas.List.{length-map, take_at, drop_at}
 use Rattle.std.proofs.lemmas.Bool.{le-leb, lt-ltb, and_from}
 use Rattle.rulefile.specs.declared.refusals.Refusal.{Refusal}
@@ -198,7 +198,7 @@ same_file g f a =
     let acts = same_list (λ x. took x []) took_one g.acts f.acts a.acts in
     rw (count, house, order, rules, clauses, wishes, acts)
 
-records_of : (rs : List RecordBytes) (n size : ℕ) (g f : FileModel) → All Framed rs → Adds g rs f → Fits f → length (flat_map bytes_of rs) ≤ n → records n size g (flat_map bytes_of rs) ≡ Ok f
+records_of : (rs : List RecordBytes) (n size : ℕ) (g f : FileModel) → AllByRecursion Framed rs → Adds g rs f → Fits f → length (flat_map bytes_of rs) ≤ n → records n size g (flat_map bytes_of rs) ≡ Ok f
 unfolding records
 records_of [] n size g f framed a fits le = ap Ok (same_file g f a)
 records_of (r ∷ rs) n size g f framed a fits le =

@@ -1,6 +1,6 @@
 -- What a parser that succeeds has found.
 use Rattle.std.proofs.Common.{◌≡◌, ℕ, zero, suc, ◌-◌, ◌%◌, ◌^◌, ◌<◌, ◌≤◌, Bool, true, false, cond, ◌&&◌, ltb, leb, List, [], ◌∷◌, ◌++◌, length, take, drop, sym, refl, ap, ◌∙◌, subst, append_assoc, arith}
-use Rattle.std.specs.List.{AllByRecursion as All}
+use Rattle.std.specs.List.{AllByRecursion}
 use Rattle.std.proofs.lemmas.Bool.{ltb-true, leb-true, and_parts}
 use Rattle.std.proofs.lemmas.List.{take-append-drop, length-take-le, length-drop}
 use Rattle.sheets.specs.Sheets.{width}
@@ -84,11 +84,11 @@ gives_within low high bs =
     gives_then P (field 1 bs) _ (λ n rest. gives_check P (leb low n && leb n high) OutOfRange rest _
     (λ t _ _. let b = and_parts (leb low n) (leb n high) t in (leb-true low n b.0, leb-true n high b.1)))
 
-pub gives_times : {A : Type 0} (P : A → Type 0) (p : Parser A) → ((bs : List ℕ) → Gives P (p bs)) → (n : ℕ) (bs : List ℕ) → Gives (All P) (times n p bs)
+pub gives_times : {A : Type 0} (P : A → Type 0) (p : Parser A) → ((bs : List ℕ) → Gives P (p bs)) → (n : ℕ) (bs : List ℕ) → Gives (AllByRecursion P) (times n p bs)
 unfolding times
 gives_times P p h zero bs = tt
-gives_times P p h (suc n) bs = gives_after P (All P) (p bs) _ (h bs)
-    (λ x rest px. gives_after (All P) (All P) (times n p rest) _ (gives_times P p h n rest) (λ xs _ pxs. (px, pxs)))
+gives_times P p h (suc n) bs = gives_after P (AllByRecursion P) (p bs) _ (h bs)
+    (λ x rest px. gives_after (AllByRecursion P) (AllByRecursion P) (times n p rest) _ (gives_times P p h n rest) (λ xs _ pxs. (px, pxs)))
 
 pub gives_length : {A : Type 0} (p : Parser A) (n : ℕ) (bs : List ℕ) → Gives (λ xs. length xs ≡ n) (times n p bs)
 unfolding times
@@ -127,7 +127,7 @@ gives_constraint count bs =
     let P : Element → Type 0 = λ e. e.literal.mark < count in
     let Q = ConstraintBelow count in
     gives_then Q (field 4 bs) _ (λ low r. gives_then Q (field 4 r) _ (λ high r. gives_then Q (within 0 32 r) _ (λ n r.
-    gives_after (All P) Q (times n (element count) r) _ (gives_times P (element count) (gives_element count) n r) (λ es _ h. h))))
+    gives_after (AllByRecursion P) Q (times n (element count) r) _ (gives_times P (element count) (gives_element count) n r) (λ es _ h. h))))
 
 gives_rule_fields : (count : ℕ) (bs : List ℕ) → Gives (RuleBelow count) (rule_fields count bs)
 unfolding rule_fields
@@ -136,7 +136,7 @@ gives_rule_fields count bs =
     let Q = RuleBelow count in
     gives_then Q (within 0 8 bs) _ (λ n r.
     gives_after P Q (constraint count r) _ (gives_constraint count r) (λ h r hh.
-    gives_after (All P) Q (times n (constraint count) r) _ (gives_times P (constraint count) (gives_constraint count) n r) (λ ks r hk. (hh, hk))))
+    gives_after (AllByRecursion P) Q (times n (constraint count) r) _ (gives_times P (constraint count) (gives_constraint count) n r) (λ ks r hk. (hh, hk))))
 
 pub gives_rule : (count : ℕ) (bs : List ℕ) → Gives (RuleBelow count) (rule_body count bs)
 unfolding rule_body

@@ -1,6 +1,6 @@
 -- What every accepted file keeps, in the words of the format.
 use Rattle.std.specs.Prelude.{◌≡◌, ℕ, ◌+◌, ◌^◌, ◌<◌, ◌≤◌, cond, List, [], ◌∷◌, ◌++◌, map, length, Ok, ◌==◌, ◌≢◌}
-use Rattle.std.specs.List.{flat_map, AllByRecursion as All}
+use Rattle.std.specs.List.{flat_map, AllByRecursion}
 use Rattle.sheets.specs.Sheets.{width, MarksBelow}
 use Rattle.sheets.specs.declared.literals.Literal.{Literal}
 use Rattle.rulefile.specs.declared.constraints.Element.{Element}
@@ -40,22 +40,22 @@ Say p bodies xs = map p bodies ≡ map (λ x. took x []) xs
 
 -- every mark is below n
 abbrev pub LiteralsBelow : ℕ → List Literal → Type 0
-LiteralsBelow n = All (λ (l : Literal). l.mark < n)
+LiteralsBelow n = AllByRecursion (λ (l : Literal). l.mark < n)
 
 abbrev pub ConstraintBelow : ℕ → ConstraintModel → Type 0
-ConstraintBelow n k = All (λ (e : Element). e.literal.mark < n) k.elements
+ConstraintBelow n k = AllByRecursion (λ (e : Element). e.literal.mark < n) k.elements
 
 abbrev pub RuleBelow : ℕ → RuleModel → Type 0
-RuleBelow n r = ConstraintBelow n r.head × All (ConstraintBelow n) r.body
+RuleBelow n r = ConstraintBelow n r.head × AllByRecursion (ConstraintBelow n) r.body
 
 -- the limits of a file: the count is from 1 to the width, the house sheet and each element have only marks below it, and there are at most 256 of a kind
 pub record Fits (f : FileModel) : Type 0 where
   pub some : 1 ≤ f.count
   pub few : f.count ≤ width
   pub house : f.house < 2 ^ f.count
-  pub rules : All (RuleBelow f.count) f.rules
-  pub clauses : All (LiteralsBelow f.count) f.clauses
-  pub wishes : All (λ (w : WishModel). LiteralsBelow f.count w.literals) f.wishes
+  pub rules : AllByRecursion (RuleBelow f.count) f.rules
+  pub clauses : AllByRecursion (LiteralsBelow f.count) f.clauses
+  pub wishes : AllByRecursion (λ (w : WishModel). LiteralsBelow f.count w.literals) f.wishes
   pub few_rules : length f.rules ≤ 256
   pub few_clauses : length f.clauses ≤ 256
   pub few_wishes : length f.wishes ≤ 256
@@ -67,12 +67,12 @@ pub record Accepted (bytes : List ℕ) (f : FileModel) : Type 0 where
   pub head : RecordBytes
   pub later : List RecordBytes
   pub sequence : bytes ≡ flat_map bytes_of (head ∷ later)
-  pub framed : All Framed (head ∷ later)
+  pub framed : AllByRecursion Framed (head ∷ later)
   pub adds_up : length bytes ≡ lengths (head ∷ later)
   pub short : length bytes ≤ 32768
   -- the first record is the head, and no other is
   pub first : little head.kind ≡ 1
-  pub only : All (λ r. little r.kind ≢ 1) later
+  pub only : AllByRecursion (λ r. little r.kind ≢ 1) later
   -- each record says its part, and the parts of a kind come in file order
   pub says : head_body head.body ≡ took (f.count, f.house) []
   pub rules : Say (rule_body f.count) (bodies_of 2 later) f.rules
