@@ -24,10 +24,10 @@ given f z w below says = record {
   said = λ v _ other. ap Ok (says_one f.rules z w v says other);
 }
 
-pub returns-then-not-within_count : goal.returns-then-not-within_count
-returns-then-not-within_count c = refused _ _ (λ below. both_ways c.within_count.result c.if-not-within_count.true (c.within_count.ensures.meaning.1 below))
-
 pub returns : goal.returns
 returns c =
     given _ _ c.rules_verdict.result (c.within_count.ensures.meaning.0 c.if-not-within_count.false)
     (rw (← c.as_slice.ensures.value) c.rules_verdict.ensures)
+
+pub returns-then-not-within_count : goal.returns-then-not-within_count
+returns-then-not-within_count c = refused _ _ (λ below. both_ways c.within_count.result c.if-not-within_count.true (c.within_count.ensures.meaning.1 below))

@@ -10,6 +10,9 @@ use Rattle.report.proofs.lines.put_levels.Goals as goal
 first : (levels : List ℤ) (n : ℕ) (w : ℤ) → w ≡ cost_at levels n → 1 ≤ n → levels_left levels n ≡ (32 ∷ []) ++ (signed_decimal w ++ levels_left levels (n - 1))
 first levels n w e le = levels_left_more levels n le ∙ ap (λ (v : ℤ). (32 ∷ []) ++ (signed_decimal v ++ levels_left levels (n - 1))) (sym e)
 
+pub returns : goal.returns
+returns c = left_none (left_like [] (levels_left_none c.args.cost.levels c.loop-level.level c.loop-level-test.false) c.loop-level.invariant)
+
 pub loop-level-init : goal.loop-level-init
 loop-level-init c = left_like (levels_left c.args.cost.levels top) (sym (levels_left_all c.args.cost.levels)) (left_all c.requires)
 
@@ -40,6 +43,3 @@ loop-level-preserved c =
     left_more (levels_left levels (n - 1))
     (left_more rest (left_like ((32 ∷ []) ++ rest) (first levels n _ (read ∙ c.at.ensures) c.loop-level-test.true) c.loop-level.invariant) c.put_text-next.ensures)
     c.put_signed-end.ensures
-
-pub returns : goal.returns
-returns c = left_none (left_like [] (levels_left_none c.args.cost.levels c.loop-level.level c.loop-level-test.false) c.loop-level.invariant)

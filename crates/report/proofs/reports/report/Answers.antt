@@ -29,14 +29,6 @@ written bytes before lines after n file room means fitting p =
 bad_fits : (xs : List ℕ) (bad : BadFile) → 4096 ≤ length xs → Fits xs 0 (bad_file_line bad)
 bad_fits xs bad room = record { room = omega (arith, bad_file_short bad) }
 
-pub put_bad_file-requires : goal.put_bad_file-requires
-put_bad_file-requires c = bad_fits c.args.out.now _ c.if-out-lt-LEAST_BUFFER.false
-
-pub put_log-requires : goal.put_log-requires
-put_log-requires c =
-    let same = ap (λ l. length (log_text l)) c.as_slice.ensures.value in
-    record { room = omega (arith, same, c.in_ok-log-in-Ok.ensures.short, c.if-out-lt-LEAST_BUFFER.false) }
-
 pub returns-in_ok-log-in-Ok : goal.returns-in_ok-log-in-Ok
 returns-in_ok-log-in-Ok c =
     written c.args.file.now c.args.out.now (log_text c.as_slice.result.now) c.put_log.new.out c.put_log.result (Ok (file_of c.in-Ok.rules)) c.if-out-lt-LEAST_BUFFER.false
@@ -51,3 +43,11 @@ returns-in-Err-Refused c =
     (search rules)
     (record { meaning = refl; short = bad_file_short bad })
     (puts_like (ap bad_file_line c.in-Err-Refused.bad-is) c.put_bad_file.ensures)
+
+pub put_bad_file-requires : goal.put_bad_file-requires
+put_bad_file-requires c = bad_fits c.args.out.now _ c.if-out-lt-LEAST_BUFFER.false
+
+pub put_log-requires : goal.put_log-requires
+put_log-requires c =
+    let same = ap (λ l. length (log_text l)) c.as_slice.ensures.value in
+    record { room = omega (arith, same, c.in_ok-log-in-Ok.ensures.short, c.if-out-lt-LEAST_BUFFER.false) }

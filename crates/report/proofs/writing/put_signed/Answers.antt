@@ -22,6 +22,11 @@ plain_read w z e t = plain w t ∙ ap signed_decimal e
 minus_read : (n : ℕ) (w z : ℤ) → n ≡ nat_abs w → w ≡ z → le_z (pos 0) w ≡ false → (45 ∷ []) ++ decimal n ≡ signed_decimal z
 minus_read n w z a e f = ap (λ (m : ℕ). (45 ∷ []) ++ decimal m) a ∙ minus w f ∙ ap signed_decimal e
 
+pub returns : goal.returns
+returns c =
+    puts_like (minus_read c.unsigned_abs.result _ c.args.n c.unsigned_abs.ensures.value (to_z-of_z w32 c.args.n c.ranges.n) c.if-n-ge0.false)
+    (puts_join c.put_text-next.ensures c.put_number-2.ensures)
+
 pub put_number-requires : goal.put_number-requires
 put_number-requires c = fits_like (sym (plain_read _ c.args.n (to_z-of_z w32 c.args.n c.ranges.n) c.if-n-ge0.true)) c.requires
 
@@ -36,8 +41,3 @@ pub put_number-requires-2 : goal.put_number-requires-2
 put_number-requires-2 c =
     fits_rest (decimal c.unsigned_abs.result) c.put_text-next.ensures
     (fits_like (sym (minus_read c.unsigned_abs.result _ c.args.n c.unsigned_abs.ensures.value (to_z-of_z w32 c.args.n c.ranges.n) c.if-n-ge0.false)) c.requires)
-
-pub returns : goal.returns
-returns c =
-    puts_like (minus_read c.unsigned_abs.result _ c.args.n c.unsigned_abs.ensures.value (to_z-of_z w32 c.args.n c.ranges.n) c.if-n-ge0.false)
-    (puts_join c.put_text-next.ensures c.put_number-2.ensures)

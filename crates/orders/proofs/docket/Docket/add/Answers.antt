@@ -1,4 +1,4 @@
-use Rattle.std.proofs.Common.{◌≡◌, ◌+◌, ◌<◌, ◌≤◌, [], ◌∷◌, ◌++◌, take, set, None, Ok, sym, ap, ◌∙◌, arith}
+use Rattle.std.proofs.Common.{◌≡◌, ◌+◌, ◌<◌, [], ◌∷◌, ◌++◌, take, set, None, Ok, sym, ap, ◌∙◌, arith}
 use Rattle.std.proofs.lemmas.List.{length-set}
 use Rattle.sheets.specs.Lists.{all}
 use Rattle.orders.specs.Acts.{most_acts, in_range}
@@ -7,17 +7,22 @@ use Rattle.orders.specs.Models.{standing}
 use Rattle.orders.proofs.Dockets.{standing_length, all_push, accepted_range, accepted_room, added, added_length}
 use Rattle.orders.proofs.docket.Docket.add.Goals as goal
 
-pub invariant_of-self : goal.invariant_of-self
-invariant_of-self c =
+pub invariant_of-self-clause-ranges : goal.invariant_of-self-clause-ranges
+invariant_of-self-clause-ranges c =
     let old = c.args.self.now in
     let none : refused_act c.args.count (standing old) c.args.act ≡ None = sym c.in-None.ensures in
     let room : old.len < most_acts = omega (arith, accepted_room c.args.count (standing old) c.args.act none, standing_length old) in
-    let few : old.len + 1 ≤ most_acts = omega arith in
-    record {
-      room = length-set old.acts old.len c.args.act ∙ old.room;
-      few = few;
-      ranges = ap (all in_range) (added old c.args.act room) ∙ all_push (standing old) c.args.act old.ranges (accepted_range c.args.count (standing old) c.args.act c.requires none);
-    }
+    ap (all in_range) (added old c.args.act room) ∙ all_push (standing old) c.args.act old.ranges (accepted_range c.args.count (standing old) c.args.act c.requires none)
+
+pub invariant_of-self-clause-room : goal.invariant_of-self-clause-room
+invariant_of-self-clause-room c = length-set c.args.self.now.acts c.args.self.now.len c.args.act ∙ c.args.self.now.room
+
+pub invariant_of-self-clause-few : goal.invariant_of-self-clause-few
+invariant_of-self-clause-few c =
+    let old = c.args.self.now in
+    let none : refused_act c.args.count (standing old) c.args.act ≡ None = sym c.in-None.ensures in
+    let room : old.len < most_acts = omega (arith, accepted_room c.args.count (standing old) c.args.act none, standing_length old) in
+    omega arith
 
 pub returns-in-None : goal.returns-in-None
 returns-in-None c =

@@ -1,7 +1,10 @@
-use Rattle.std.proofs.Common.{◌^◌, ◌<◌, arith}
+use Rattle.std.proofs.Common.{◌^◌, ◌<◌, refl, arith}
 use Rattle.sheets.specs.Sheets.{width}
 use Rattle.sheets.specs.Parts.{deciding_disjoint}
 use Rattle.sheets.proofs.part.PartSheet.deciding.Goals as goal
+
+pub returns-clause-absent : goal.returns-clause-absent
+returns-clause-absent c = refl
 
 pub invariant_of-result : goal.invariant_of-result
 invariant_of-result c =
