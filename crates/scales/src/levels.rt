@@ -67,6 +67,8 @@ impl Scale for Levels {
         a.is_less(b)
     }
 
+    // With this lemma the check of a wrong test names the goal that it breaks, and no other.
+    #[tactic(auto, using(crate::specs::Orders::less_turned))]
     fn same(&self, a: LevelCost, b: LevelCost) -> bool {
         a == b
     }
