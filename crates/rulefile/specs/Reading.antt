@@ -1,5 +1,5 @@
 -- What the reader promises.
-use Rattle.std.specs.Prelude.{◌≡◌, ℕ, List, take, IfOk, Ok, Err, Result}
+use Rattle.std.specs.Prelude.{◌≡◌, ℕ, ◌≤◌, List, take, IfOk, Ok, Err, Result}
 use Rattle.rulefile.specs.declared.refusals.ReadError.{ReadError}
 use Rattle.rulefile.specs.declared.refusals.ReadError.TheVariants.{Refused, Memory}
 use Rattle.rulefile.specs.declared.files.RuleFile.{RuleFile}
@@ -25,3 +25,7 @@ pub record Reading (bytes : List ℕ) (r : Result RuleFile ReadError) : Type 0 w
 -- the first n bytes mean what the whole does, however long that is
 abbrev pub Enough : ℕ → Type 0
 Enough n = (bytes : List ℕ) → decode (take n bytes) ≡ decode bytes
+
+-- and no fewer bytes do
+abbrev pub Fewest : ℕ → Type 0
+Fewest n = (m : ℕ) → Enough m → n ≤ m

@@ -1,10 +1,11 @@
 // How much of an input has to be read.
-ghost use Rattle.rulefile.specs.Reading.{Enough};
+ghost use Rattle.rulefile.specs.Reading.{Enough, Fewest};
 
-// The first so many bytes of an input mean what the whole does: they are one more than a file may have, so that a longer
-// one is seen to be too long.
+// The first so many bytes of an input mean what the whole does, and no fewer do: they are one more than a file may have, so
+// that a longer one is seen to be too long.
 pub fn input_limit() -> u64
-    ensures { Enough result }
+    ensures enough { Enough result }
+    ensures fewest { Fewest result }
 {
     32_769
 }

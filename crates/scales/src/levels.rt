@@ -67,7 +67,7 @@ impl Scale for Levels {
         a.is_less(b)
     }
 
-    // With this lemma the check of a wrong test names the goal that it breaks, and no other.
+    // The lemma is for a must-fail edit of this test: with it, only the goal that the edit breaks stays open.
     #[tactic(auto, using(crate::specs::Orders::less_turned))]
     fn same(&self, a: LevelCost, b: LevelCost) -> bool {
         a == b
