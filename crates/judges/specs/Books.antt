@@ -1,6 +1,6 @@
 -- The book as a judge: the answer sets of the rules, and the part-sheets that it calls dead.
 use Rattle.std.specs.Prelude.{ℕ, zero, suc, Bool, false, not, ◌&&◌, ◌||◌, List, nat_le, nat_lt}
-use Rattle.sheets.specs.Lists.{all, any}
+use Rattle.std.specs.List.{list_all, list_any}
 use Rattle.sheets.specs.Sheets.{has, others, full}
 use Rattle.sheets.specs.Literals.{held}
 use Rattle.sheets.specs.Judging.{Judging}
@@ -11,7 +11,7 @@ use Rattle.judges.specs.Programs.{weigh, at_most, rule_holds, Horn, reduct, reac
 
 -- the set s satisfies a Horn rule
 abbrev pub obeys : ℕ → Horn → Bool
-obeys s h = not (all (reaches s) h.body) || has s h.mark
+obeys s h = not (list_all (reaches s) h.body) || has s h.mark
 
 -- a number below n passes the test
 abbrev pub one_below : (ℕ → Bool) → ℕ → Bool
@@ -22,8 +22,8 @@ one_below test (suc n) = test n || one_below test n
 -- smaller word, so this is said of the answer sets alone.
 unfoldable pub lawful : List RuleModel → ℕ → Bool
 lawful program z =
-    all (rule_holds z) program
-    && (all (obeys z) (reduct z program) && not (one_below (λ s. all (obeys s) (reduct z program)) z))
+    list_all (rule_holds z) program
+    && (list_all (obeys z) (reduct z program) && not (one_below (λ s. list_all (obeys s) (reduct z program)) z))
 
 -- ---- part-sheets, by their present marks p and their absent marks a
 
@@ -43,11 +43,11 @@ hopeless p a k = nat_lt (greatest p a k) k.low || not (at_most (least p a k) k.h
 
 -- the head is hopeless, and the whole body sure
 abbrev pub dead_rule : ℕ → ℕ → RuleModel → Bool
-dead_rule p a r = hopeless p a r.head && all (sure p a) r.body
+dead_rule p a r = hopeless p a r.head && list_all (sure p a) r.body
 
 -- a rule is dead, or the part-sheet is full and its sheet not lawful
 abbrev pub book_dead : List RuleModel → ℕ → ℕ → Bool
-book_dead program p a = any (dead_rule p a) program || (full p a && not (lawful program p))
+book_dead program p a = list_any (dead_rule p a) program || (full p a && not (lawful program p))
 
 abbrev pub book_of : FileModel → Judging
 book_of f = record { count = f.count; allows = AnswerSet f.rules; dead = book_dead f.rules }

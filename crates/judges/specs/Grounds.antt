@@ -9,7 +9,7 @@ use Rattle.judges.specs.declared.verdicts.Verdict.{Verdict}
 use Rattle.judges.specs.declared.verdicts.Verdict.TheVariants.{Lawful, Broken, Ungrounded}
 use Rattle.sheets.specs.Sheets.{has}
 use Rattle.rulefile.specs.Model.{RuleModel}
-use Rattle.sheets.specs.Lists.{all}
+use Rattle.std.specs.List.{list_all}
 use Rattle.judges.specs.Programs.{rule_holds, Satisfies, Horn, reduct, reaches, Obeys, Closure, AnswerSet}
 use Rattle.judges.specs.Rounds.{round}
 use Rattle.judges.specs.Books.{obeys, one_below, lawful}
@@ -47,7 +47,7 @@ module _ (z : ℕ) (program : List RuleModel) where
 -- ---- the test for answer sets
 
 decides_obeys : (s : ℕ) (h : Horn) → Decides (obeys s h) (Obeys s h)
-decides_obeys s h = (yes_of (all (reaches s) h.body), from (all (reaches s) h.body))
+decides_obeys s h = (yes_of (list_all (reaches s) h.body), from (list_all (reaches s) h.body))
   where
     yes_of : (b : Bool) → (not b || has s h.mark) ≡ true → b ≡ true → has s h.mark ≡ true
     yes_of true t e = t
@@ -57,10 +57,10 @@ decides_obeys s h = (yes_of (all (reaches s) h.body), from (all (reaches s) h.bo
     from true f = f refl
     from false f = refl
 
-decides_all_obey : (s : ℕ) (hs : List Horn) → Decides (all (obeys s) hs) (AllByRecursion (Obeys s) hs)
-decides_all_obey s hs = Decides-by_and (obeys s) (Obeys s) (all (obeys s)) (decides_obeys s) refl (λ _ _. refl) hs
+decides_all_obey : (s : ℕ) (hs : List Horn) → Decides (list_all (obeys s) hs) (AllByRecursion (Obeys s) hs)
+decides_all_obey s hs = Decides-by_and (obeys s) (Obeys s) (list_all (obeys s)) (decides_obeys s) refl (λ _ _. refl) hs
 
-pub obeyed : (s : ℕ) (hs : List Horn) → all (obeys s) hs ≡ true → AllByRecursion (Obeys s) hs
+pub obeyed : (s : ℕ) (hs : List Horn) → list_all (obeys s) hs ≡ true → AllByRecursion (Obeys s) hs
 obeyed s hs t = (decides_all_obey s hs).0 t
 
 below_none : (test : ℕ → Bool) (n : ℕ) → one_below test n ≡ false → (k : ℕ) → k < n → test k ≡ false
@@ -78,13 +78,13 @@ pub lawful_yes : (program : List RuleModel) (z : ℕ) → lawful program z ≡ t
 unfolding lawful
 lawful_yes program z t =
     let hs = reduct z program in
-    let a = and_parts (all (rule_holds z) program) _ t in
-    let b = and_parts (all (obeys z) hs) (not (one_below (λ s. all (obeys s) hs) z)) a.1 in
+    let a = and_parts (list_all (rule_holds z) program) _ t in
+    let b = and_parts (list_all (obeys z) hs) (not (one_below (λ s. list_all (obeys s) hs) z)) a.1 in
     let c = closure_found z program in
     let le = subset_le c.0 z (c.1.least z ((decides_all_obey z hs).0 b.0)) in
     let is = (decides_all_obey c.0 hs).1 c.1.obeys in
     let same : c.0 ≡ z = ⊎_elim (λ e. e) (λ o. ⊎_elim
-    (λ lt. absurd (both_ways (all (obeys c.0) hs) (below_none (λ s. all (obeys s) hs) z (not-true (one_below (λ s. all (obeys s) hs) z) b.1) c.0 lt) is))
+    (λ lt. absurd (both_ways (list_all (obeys c.0) hs) (below_none (λ s. list_all (obeys s) hs) z (not-true (one_below (λ s. list_all (obeys s) hs) z) b.1) c.0 lt) is))
     (λ gt. absurd (omega arith)) o) (cases_order c.0 z) in
     record { satisfies = a.0; grounded = subst (Closure hs) same c.1 }
 
@@ -92,17 +92,17 @@ pub lawful_from : (program : List RuleModel) (z : ℕ) → AnswerSet program z �
 unfolding lawful
 lawful_from program z a =
     let hs = reduct z program in
-    and_from (all (rule_holds z) program) _ a.satisfies
-    (and_from (all (obeys z) hs) (not (one_below (λ s. all (obeys s) hs) z)) ((decides_all_obey z hs).1 a.grounded.obeys)
-    (ap not (none_below (λ s. all (obeys s) hs) z (λ k lt. ⊎_elim
+    and_from (list_all (rule_holds z) program) _ a.satisfies
+    (and_from (list_all (obeys z) hs) (not (one_below (λ s. list_all (obeys s) hs) z)) ((decides_all_obey z hs).1 a.grounded.obeys)
+    (ap not (none_below (λ s. list_all (obeys s) hs) z (λ k lt. ⊎_elim
     (λ t. let le = subset_le z k (a.grounded.least k ((decides_all_obey k hs).0 t)) in absurd (omega arith))
-    (λ f. f) (cases_Bool (all (obeys k) hs))))))
+    (λ f. f) (cases_Bool (list_all (obeys k) hs))))))
 
 -- ---- the verdicts exclude one another
 broken_not : (program : List RuleModel) (z n : ℕ) → FirstBroken program z n → Satisfies z program → ⊥
 broken_not program z n b s = go program b.within b.fails s
   where
-    go : (l : List RuleModel) → n < length l → ((d : RuleModel) → rule_holds z (slice_index_or l n d) ≡ false) → all (rule_holds z) l ≢ true
+    go : (l : List RuleModel) → n < length l → ((d : RuleModel) → rule_holds z (slice_index_or l n d) ≡ false) → list_all (rule_holds z) l ≢ true
     go [] lt f h = omega arith
     go (r ∷ rs) lt f h = both_ways (rule_holds z (slice_index_or (r ∷ rs) n r)) (f r) (all_at (rule_holds z) (r ∷ rs) h n lt r)
 

@@ -5,7 +5,7 @@ use Rattle.std.specs.Int.Bits.{mask_lt}
 use Rattle.std.specs.List.{AllByRecursion}
 use Rattle.std.proofs.ByRecursion.{All-append}
 use Rattle.std.proofs.lemmas.Bool.{both_ways, cases_Bool, and_from, and_parts, and_cases, and_left, and_right, or_cases, or_parts, or_from, not-true, not-false, leb-true, le-leb, lt-leb, ltb-true}
-use Rattle.sheets.specs.Lists.{all, any}
+use Rattle.std.specs.List.{list_all, list_any}
 use Rattle.sheets.specs.Sheets.{has, others, Part, Within, full, MarksBelow}
 use Rattle.sheets.specs.Literals.{held, holds}
 use Rattle.sheets.specs.Judging.{JudgeLaws}
@@ -66,9 +66,9 @@ module _ (p a z : ℕ) (part : Part p a) (w : Within p a z) where
       (le-leb k.low (weigh (holds z) k.elements) (omega (arith, leb-true k.low (least p a k) b.0, least_le k)))
       (at_most_less (weigh (holds z) k.elements) (greatest p a k) k.high (le_greatest k) b.1)
 
-  sure_all : (ks : List ConstraintModel) → all (sure p a) ks ≡ true → all (satisfied z) ks ≡ true
+  sure_all : (ks : List ConstraintModel) → list_all (sure p a) ks ≡ true → list_all (satisfied z) ks ≡ true
   sure_all [] h = refl
-  sure_all (k ∷ ks) h = let b = and_parts (sure p a k) (all (sure p a) ks) h in and_from (satisfied z k) (all (satisfied z) ks) (sure_satisfied k b.0) (sure_all ks b.1)
+  sure_all (k ∷ ks) h = let b = and_parts (sure p a k) (list_all (sure p a) ks) h in and_from (satisfied z k) (list_all (satisfied z) ks) (sure_satisfied k b.0) (sure_all ks b.1)
 
   hopeless_fails : (k : ConstraintModel) → hopeless p a k ≡ true → satisfied z k ≡ false
   hopeless_fails k h = ⊎_elim
@@ -81,14 +81,14 @@ module _ (p a z : ℕ) (part : Part p a) (w : Within p a z) where
 
   dead_fails : (r : RuleModel) → dead_rule p a r ≡ true → rule_holds z r ≡ false
   dead_fails r h =
-      let b = and_parts (hopeless p a r.head) (all (sure p a) r.body) h in
-      or_from (satisfied z r.head) (not (all (satisfied z) r.body)) (hopeless_fails r.head b.0) (ap not (sure_all r.body b.1))
+      let b = and_parts (hopeless p a r.head) (list_all (sure p a) r.body) h in
+      or_from (satisfied z r.head) (not (list_all (satisfied z) r.body)) (hopeless_fails r.head b.0) (ap not (sure_all r.body b.1))
 
-  dead_none : (program : List RuleModel) → any (dead_rule p a) program ≡ true → all (rule_holds z) program ≢ true
+  dead_none : (program : List RuleModel) → list_any (dead_rule p a) program ≡ true → list_all (rule_holds z) program ≢ true
   dead_none [] d h = both_ways false refl d
   dead_none (r ∷ rs) d h =
-      let b = and_parts (rule_holds z r) (all (rule_holds z) rs) h in
-      ⊎_elim (λ t. both_ways (rule_holds z r) (dead_fails r t) b.0) (λ t. dead_none rs t b.1) (or_cases (dead_rule p a r) (any (dead_rule p a) rs) d)
+      let b = and_parts (rule_holds z r) (list_all (rule_holds z) rs) h in
+      ⊎_elim (λ t. both_ways (rule_holds z r) (dead_fails r t) b.0) (λ t. dead_none rs t b.1) (or_cases (dead_rule p a r) (list_any (dead_rule p a) rs) d)
 
 -- ---- the laws
 
@@ -101,7 +101,7 @@ module _ (f : FileModel) (fits : Fits f) where
       let every = (decides_full p a part.present_word part.absent_word).0 b.0 in
       let e : z ≡ p = within_full p a part every z w in
       both_ways (lawful f.rules p) (not-true (lawful f.rules p) b.1) (lawful_from f.rules p (subst (AnswerSet f.rules) e al)))
-      (or_cases (any (dead_rule p a) f.rules) (full p a && not (lawful f.rules p)) dead)
+      (or_cases (list_any (dead_rule p a) f.rules) (full p a && not (lawful f.rules p)) dead)
 
   pub book_laws : JudgeLaws (book_of f)
   book_laws = record {
@@ -111,7 +111,7 @@ module _ (f : FileModel) (fits : Fits f) where
     sound = dead_sound;
     full_dead = λ p a part every dead al. dead_sound p a p part dead (within_itself p a part) al;
     full_allowed = λ p a part every alive.
-        let g = or_parts (any (dead_rule p a) f.rules) (full p a && not (lawful f.rules p)) alive in
+        let g = or_parts (list_any (dead_rule p a) f.rules) (full p a && not (lawful f.rules p)) alive in
         ⊎_elim
         (λ n. absurd (both_ways (full p a) n ((decides_full p a part.present_word part.absent_word).1 every)))
         (λ n. lawful_yes f.rules p (not-false (lawful f.rules p) n))

@@ -3,7 +3,7 @@
 use Rattle.std.specs.Prelude.{◌≡◌, ℕ, ◌+◌, ◌-◌, Bool, true, cond, not, ◌&&◌, ◌||◌, List, [], ◌∷◌, map, Some, None, filter, Option, nat_le}
 use Rattle.std.specs.List.{flat_map, AllByRecursion}
 use Rattle.sheets.specs.declared.literals.Literal.{Literal}
-use Rattle.sheets.specs.Lists.{all}
+use Rattle.std.specs.List.{list_all}
 use Rattle.sheets.specs.Sheets.{has, Subset}
 use Rattle.sheets.specs.Literals.{holds}
 use Rattle.rulefile.specs.declared.constraints.Element.{Element}
@@ -27,10 +27,10 @@ satisfied z k = nat_le k.low (weigh (holds z) k.elements) && at_most (weigh (hol
 
 -- the head is satisfied whenever the whole body is
 abbrev pub rule_holds : ℕ → RuleModel → Bool
-rule_holds z r = satisfied z r.head || not (all (satisfied z) r.body)
+rule_holds z r = satisfied z r.head || not (list_all (satisfied z) r.body)
 
 abbrev pub Satisfies : ℕ → List RuleModel → Type 0
-Satisfies z program = all (rule_holds z) program ≡ true
+Satisfies z program = list_all (rule_holds z) program ≡ true
 
 -- ---- the reduct
 
@@ -58,7 +58,7 @@ lowered z k = record {
 -- one Horn rule for each plain head element that holds in z, and none at all where a body sum is above its high bound in z
 abbrev pub reduct_of_rule : ℕ → RuleModel → List Horn
 reduct_of_rule z r =
-    cond (all (λ k. at_most (weigh (holds z) k.elements) k.high) r.body)
+    cond (list_all (λ k. at_most (weigh (holds z) k.elements) k.high) r.body)
     (map (λ e. record { mark = e.literal.mark; body = map (lowered z) r.body })
     (filter (λ e. plain e.literal && holds z e.literal) r.head.elements))
     []
@@ -73,7 +73,7 @@ reaches s k = nat_le k.bound (weigh (holds s) k.elements)
 
 -- the set s satisfies a Horn rule
 abbrev pub Obeys : ℕ → Horn → Type 0
-Obeys s h = all (reaches s) h.body ≡ true → has s h.mark ≡ true
+Obeys s h = list_all (reaches s) h.body ≡ true → has s h.mark ≡ true
 
 -- the least set that satisfies a Horn program
 pub record Closure (program : List Horn) (s : ℕ) : Type 0 where

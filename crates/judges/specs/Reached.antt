@@ -8,7 +8,7 @@ use Rattle.sheets.specs.declared.literals.Literal.{Literal}
 use Rattle.rulefile.specs.declared.constraints.Element.{Element}
 use Rattle.sheets.specs.Sheets.{width, has, Subset}
 use Rattle.rulefile.specs.Model.{ConstraintModel, RuleModel}
-use Rattle.sheets.specs.Lists.{all}
+use Rattle.std.specs.List.{list_all}
 use Rattle.sheets.specs.Literals.{held, holds}
 use Rattle.judges.specs.Programs.{weigh, at_most, plain, Horn, lowered, reduct_of_rule, reduct, reaches, Obeys, Closure}
 use Rattle.judges.specs.Rounds.{supported, with_heads, fired, round}
@@ -53,38 +53,38 @@ if_reaches z s k t = le-leb _ _ (omega (arith, leb-true _ _ t, weigh_split s z k
 
 -- no body sum is above its high bound in z
 abbrev Open : ℕ → List ConstraintModel → Bool
-Open z ks = all (λ k. at_most (weigh (holds z) k.elements) k.high) ks
+Open z ks = list_all (λ k. at_most (weigh (holds z) k.elements) k.high) ks
 
-supported_open : (z s : ℕ) (ks : List ConstraintModel) → all (supported z s) ks ≡ true → Open z ks ≡ true
+supported_open : (z s : ℕ) (ks : List ConstraintModel) → list_all (supported z s) ks ≡ true → Open z ks ≡ true
 supported_open z s [] h = refl
 supported_open z s (k ∷ ks) h =
-    let a = and_parts (supported z s k) (all (supported z s) ks) h in
+    let a = and_parts (supported z s k) (list_all (supported z s) ks) h in
     let b = and_parts (at_most (weigh (holds z) k.elements) k.high) (nat_le k.low (weigh (held s z) k.elements)) a.0 in
     and_from (at_most (weigh (holds z) k.elements) k.high) (Open z ks) b.0 (supported_open z s ks a.1)
 
-supported_reaches : (z s : ℕ) (ks : List ConstraintModel) → all (supported z s) ks ≡ true → all (reaches s) (map (lowered z) ks) ≡ true
+supported_reaches : (z s : ℕ) (ks : List ConstraintModel) → list_all (supported z s) ks ≡ true → list_all (reaches s) (map (lowered z) ks) ≡ true
 supported_reaches z s [] h = refl
 supported_reaches z s (k ∷ ks) h =
-    let a = and_parts (supported z s k) (all (supported z s) ks) h in
+    let a = and_parts (supported z s k) (list_all (supported z s) ks) h in
     let b = and_parts (at_most (weigh (holds z) k.elements) k.high) (nat_le k.low (weigh (held s z) k.elements)) a.0 in
-    and_from (reaches s (lowered z k)) (all (reaches s) (map (lowered z) ks)) (reaches_if z s k b.1) (supported_reaches z s ks a.1)
+    and_from (reaches s (lowered z k)) (list_all (reaches s) (map (lowered z) ks)) (reaches_if z s k b.1) (supported_reaches z s ks a.1)
 
-supported_from : (z s : ℕ) (ks : List ConstraintModel) → Open z ks ≡ true → all (reaches s) (map (lowered z) ks) ≡ true → all (supported z s) ks ≡ true
+supported_from : (z s : ℕ) (ks : List ConstraintModel) → Open z ks ≡ true → list_all (reaches s) (map (lowered z) ks) ≡ true → list_all (supported z s) ks ≡ true
 supported_from z s [] o h = refl
 supported_from z s (k ∷ ks) o h =
     let a = and_parts (at_most (weigh (holds z) k.elements) k.high) (Open z ks) o in
-    let b = and_parts (reaches s (lowered z k)) (all (reaches s) (map (lowered z) ks)) h in
-    and_from (supported z s k) (all (supported z s) ks)
+    let b = and_parts (reaches s (lowered z k)) (list_all (reaches s) (map (lowered z) ks)) h in
+    and_from (supported z s k) (list_all (supported z s) ks)
     (and_from (at_most (weigh (holds z) k.elements) k.high) (nat_le k.low (weigh (held s z) k.elements)) a.0 (if_reaches z s k b.0))
     (supported_from z s ks a.1 b.1)
 
-supported_more : (z s t : ℕ) → Subset s t → (ks : List ConstraintModel) → all (supported z s) ks ≡ true → all (supported z t) ks ≡ true
+supported_more : (z s t : ℕ) → Subset s t → (ks : List ConstraintModel) → list_all (supported z s) ks ≡ true → list_all (supported z t) ks ≡ true
 supported_more z s t u [] h = refl
 supported_more z s t u (k ∷ ks) h =
-    let a = and_parts (supported z s k) (all (supported z s) ks) h in
+    let a = and_parts (supported z s k) (list_all (supported z s) ks) h in
     let b = and_parts (at_most (weigh (holds z) k.elements) k.high) (nat_le k.low (weigh (held s z) k.elements)) a.0 in
     let le = weigh_le (held s z) (held t z) (held_more s t z u) k.elements in
-    and_from (supported z t k) (all (supported z t) ks)
+    and_from (supported z t k) (list_all (supported z t) ks)
     (and_from (at_most (weigh (holds z) k.elements) k.high) (nat_le k.low (weigh (held t z) k.elements)) b.0
     (le-leb _ _ (omega (arith, leb-true _ _ b.1))))
     (supported_more z s t u ks a.1)
@@ -100,7 +100,7 @@ abbrev horn : ℕ → List ConstraintModel → Element → Horn
 horn z ks e = record { mark = e.literal.mark; body = map (lowered z) ks }
 
 module _ (z t : ℕ) (ks : List ConstraintModel) where
-  heads_from : all (reaches t) (map (lowered z) ks) ≡ true → (es : List Element) → AllByRecursion (Obeys t) (map (horn z ks) (filter (picked z) es)) → HeadsIn z t es
+  heads_from : list_all (reaches t) (map (lowered z) ks) ≡ true → (es : List Element) → AllByRecursion (Obeys t) (map (horn z ks) (filter (picked z) es)) → HeadsIn z t es
   heads_from ok [] a = tt
   heads_from ok (e ∷ es) a = go (heads_from ok es) (picked z e) refl a
     where
@@ -109,7 +109,7 @@ module _ (z t : ℕ) (ks : List ConstraintModel) where
       go rest true q a = (λ _. a.0 ok, rest a.1)
       go rest false q a = (λ p. absurd (both_ways (picked z e) q p), rest a)
 
-  heads_to : (es : List Element) → (all (reaches t) (map (lowered z) ks) ≡ true → HeadsIn z t es) → AllByRecursion (Obeys t) (map (horn z ks) (filter (picked z) es))
+  heads_to : (es : List Element) → (list_all (reaches t) (map (lowered z) ks) ≡ true → HeadsIn z t es) → AllByRecursion (Obeys t) (map (horn z ks) (filter (picked z) es))
   heads_to [] a = tt
   heads_to (e ∷ es) a = go (heads_to es (λ ok. (a ok).1)) (picked z e) refl
     where
@@ -118,11 +118,11 @@ module _ (z t : ℕ) (ks : List ConstraintModel) where
       go rest true q = (λ ok. (a ok).0 q, rest)
       go rest false q = rest
 
-pub rule_from : (z t : ℕ) (r : RuleModel) → AllByRecursion (Obeys t) (reduct_of_rule z r) → all (supported z t) r.body ≡ true → HeadsIn z t r.head.elements
+pub rule_from : (z t : ℕ) (r : RuleModel) → AllByRecursion (Obeys t) (reduct_of_rule z r) → list_all (supported z t) r.body ≡ true → HeadsIn z t r.head.elements
 rule_from z t r a h = heads_from z t r.body (supported_reaches z t r.body h) r.head.elements
     (subst (λ b. AllByRecursion (Obeys t) (cond b (map (horn z r.body) (filter (picked z) r.head.elements)) [])) (supported_open z t r.body h) a)
 
-pub rule_to : (z t : ℕ) (r : RuleModel) → (all (supported z t) r.body ≡ true → HeadsIn z t r.head.elements) → AllByRecursion (Obeys t) (reduct_of_rule z r)
+pub rule_to : (z t : ℕ) (r : RuleModel) → (list_all (supported z t) r.body ≡ true → HeadsIn z t r.head.elements) → AllByRecursion (Obeys t) (reduct_of_rule z r)
 rule_to z t r f = go (Open z r.body) refl
   where
     go : (b : Bool) → Open z r.body ≡ b → AllByRecursion (Obeys t) (cond b (map (horn z r.body) (filter (picked z) r.head.elements)) [])
@@ -168,21 +168,21 @@ heads_weaker z t u le (e ∷ es) h = (λ p. le e.literal.mark (h.0 p), heads_wea
 
 -- ---- one rule
 fired_keeps : (z : ℕ) (r : RuleModel) (s : ℕ) → Subset s (fired z r s)
-fired_keeps z r s = go (all (supported z s) r.body)
+fired_keeps z r s = go (list_all (supported z s) r.body)
   where
     go : (b : Bool) → Subset s (cond b (with_heads z r.head.elements s) s)
     go true = heads_keep z r.head.elements s
     go false = λ i t. t
 
 fired_under : (z t : ℕ) (r : RuleModel) (s : ℕ) → Subset s t → AllByRecursion (Obeys t) (reduct_of_rule z r) → Subset (fired z r s) t
-fired_under z t r s u a = go (all (supported z s) r.body) refl
+fired_under z t r s u a = go (list_all (supported z s) r.body) refl
   where
-    go : (b : Bool) → all (supported z s) r.body ≡ b → Subset (cond b (with_heads z r.head.elements s) s) t
+    go : (b : Bool) → list_all (supported z s) r.body ≡ b → Subset (cond b (with_heads z r.head.elements s) s) t
     go true q = heads_under z t r.head.elements s u (rule_from z t r a (supported_more z s t u r.body q))
     go false q = u
 
 fired_inside : (z : ℕ) (r : RuleModel) (s : ℕ) → Subset s z → Subset (fired z r s) z
-fired_inside z r s u = go (all (supported z s) r.body)
+fired_inside z r s u = go (list_all (supported z s) r.body)
   where
     go : (b : Bool) → Subset (cond b (with_heads z r.head.elements s) s) z
     go true = heads_under z z r.head.elements s u (heads_inside z r.head.elements)
@@ -190,7 +190,7 @@ fired_inside z r s u = go (all (supported z s) r.body)
 
 -- u has all that the rule gives from s, and s all of u
 fired_obeys : (z u : ℕ) (r : RuleModel) (s : ℕ) → Subset u s → Subset (fired z r s) u → AllByRecursion (Obeys u) (reduct_of_rule z r)
-fired_obeys z u r s us fu = rule_to z u r (λ ok. go (all (supported z s) r.body) (supported_more z u s us r.body ok) fu)
+fired_obeys z u r s us fu = rule_to z u r (λ ok. go (list_all (supported z s) r.body) (supported_more z u s us r.body ok) fu)
   where
     go : (b : Bool) → b ≡ true → Subset (cond b (with_heads z r.head.elements s) s) u → HeadsIn z u r.head.elements
     go true q f = heads_weaker z (with_heads z r.head.elements s) u f r.head.elements (heads_reach z r.head.elements s)

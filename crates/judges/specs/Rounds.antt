@@ -1,7 +1,7 @@
 -- How the program reaches the closure: from no mark, by rounds over the rules, until a round adds nothing. Only its own
 -- functions are described so; that the closure is reached is proved.
 use Rattle.std.specs.Prelude.{ℕ, ◌^◌, Bool, cond, ◌&&◌, List, [], ◌∷◌, bit_or, nat_le}
-use Rattle.sheets.specs.Lists.{all}
+use Rattle.std.specs.List.{list_all}
 use Rattle.sheets.specs.Literals.{held, holds}
 use Rattle.rulefile.specs.declared.constraints.Element.{Element}
 use Rattle.rulefile.specs.Model.{ConstraintModel, RuleModel}
@@ -20,7 +20,7 @@ with_heads z [] s = s
 with_heads z (e ∷ es) s = with_heads z es (added z e s)
 
 abbrev pub fired : ℕ → RuleModel → ℕ → ℕ
-fired z r s = cond (all (supported z s) r.body) (with_heads z r.head.elements s) s
+fired z r s = cond (list_all (supported z s) r.body) (with_heads z r.head.elements s) s
 
 abbrev pub round : ℕ → List RuleModel → ℕ → ℕ
 round z [] s = s

@@ -2,7 +2,7 @@
 ghost use Rattle.std.specs.Prelude.{◌≡◌, ◌<◌, true, ◌&&◌, map};
 ghost use Rattle.sheets.specs.Sheets.{Subset};
 ghost use Rattle.rulefile.specs.Model.{constraint_of, rule_of};
-ghost use Rattle.sheets.specs.Lists.{all};
+ghost use Rattle.std.specs.List.{list_all};
 ghost use Rattle.sheets.specs.Literals.{holds};
 ghost use Rattle.judges.specs.Programs.{plain, reduct, Closure};
 ghost use Rattle.judges.specs.Rounds.{supported, with_heads, round};
@@ -22,7 +22,7 @@ fn is_supported(constraint: &Constraint, sheet: Sheet, reached: Sheet) -> bool
 
 // The rule is not skipped, and its body is reached.
 fn has_support(body: &[Constraint], sheet: Sheet, reached: Sheet) -> bool
-    ensures { result ≡ all (supported sheet reached) (map constraint_of body.now) }
+    ensures { result ≡ list_all (supported sheet reached) (map constraint_of body.now) }
 {
     for constraint in body {
         if !is_supported(constraint, sheet, reached) {

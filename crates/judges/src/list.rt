@@ -1,7 +1,7 @@
 // The printer's list: the clauses of a file, as a judge.
 ghost use Rattle.std.specs.Prelude.{◌≡◌, map};
 ghost use Rattle.std.specs.Rc.{rc_value};
-ghost use Rattle.sheets.specs.Lists.{all, any};
+ghost use Rattle.std.specs.List.{list_all, list_any};
 ghost use Rattle.sheets.specs.Literals.{held};
 ghost use Rattle.rulefile.specs.Answers.{file_of};
 ghost use Rattle.rulefile.specs.Model.{clause_of};
@@ -29,7 +29,7 @@ impl PrinterList {
 
 // Each clause has a literal that is held so.
 fn are_kept(clauses: &[Clause], there: Sheet, among: Sheet) -> bool
-    ensures { result ≡ all (any (held there among)) (map clause_of clauses.now) }
+    ensures { result ≡ list_all (list_any (held there among)) (map clause_of clauses.now) }
 {
     for clause in clauses {
         if !is_one_held(clause.literals.as_slice(), there, among) {

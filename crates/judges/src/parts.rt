@@ -1,7 +1,7 @@
 // What a part-sheet settles of the rules.
 ghost use Rattle.std.specs.Prelude.{◌≡◌, map};
 ghost use Rattle.rulefile.specs.Model.{constraint_of, rule_of};
-ghost use Rattle.sheets.specs.Lists.{all, any};
+ghost use Rattle.std.specs.List.{list_all, list_any};
 ghost use Rattle.judges.specs.Books.{least, greatest, sure, hopeless, dead_rule};
 
 use crate::sums::{is_at_most, sum};
@@ -39,7 +39,7 @@ fn is_hopeless(constraint: &Constraint, part: PartSheet) -> bool
 }
 
 fn are_sure(body: &[Constraint], part: PartSheet) -> bool
-    ensures { result ≡ all (sure part.present part.absent) (map constraint_of body.now) }
+    ensures { result ≡ list_all (sure part.present part.absent) (map constraint_of body.now) }
 {
     for constraint in body {
         if !is_sure(constraint, part) {
@@ -57,7 +57,7 @@ fn is_dead_rule(rule: &Rule, part: PartSheet) -> bool
 }
 
 pub(crate) fn has_dead_rule(rules: &[Rule], part: PartSheet) -> bool
-    ensures { result ≡ any (dead_rule part.present part.absent) (map rule_of rules.now) }
+    ensures { result ≡ list_any (dead_rule part.present part.absent) (map rule_of rules.now) }
 {
     for rule in rules {
         if is_dead_rule(rule, part) {

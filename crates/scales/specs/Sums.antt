@@ -4,7 +4,7 @@ use Rattle.std.proofs.Common.{sym, ap, ap₂, ◌∙◌, inl, inr, ⊎_elim, ari
 use Rattle.std.specs.Int.{int_min}
 use Rattle.std.proofs.lemmas.Int.{ints, clamps}
 use Rattle.std.proofs.lemmas.Bool.{both_ways, cases_Bool, cond_both, and_from, and_parts, or_cases, or_parts, leb-true, le-leb, eqb-true}
-use Rattle.sheets.specs.Lists.{all, any}
+use Rattle.std.specs.List.{list_all, list_any}
 use Rattle.sheets.specs.Sheets.{others, Part, Within, Full}
 use Rattle.sheets.specs.Literals.{held, holds}
 use Rattle.sheets.specs.Scaling.{ScaleLaws}
@@ -33,14 +33,14 @@ floor_least false false false w h k = omega (arith, ints)
 
 floor_le : (p a z : ℕ) → Part p a → Within p a z → (w : WishModel) → wish_floor p a w ≤ℤ wish_cost z w
 floor_le p a z part within w =
-    floor_least (all (held p (others a)) w.literals) (all (held (others a) p) w.literals) (all (holds z) w.literals) w.weight
+    floor_least (list_all (held p (others a)) w.literals) (list_all (held (others a) p) w.literals) (list_all (holds z) w.literals) w.weight
     (all_wider (held p (others a)) (holds z) (sure_holds p a z part within) w.literals)
     (all_wider (holds z) (held (others a) p) (holds_possible p a z part within) w.literals)
 
 floor_full : (p a : ℕ) → Part p a → Full p a → (w : WishModel) → wish_floor p a w ≡ wish_cost p w
 floor_full p a part every w =
-    ap (λ q. cond (all (held p q) w.literals) w.weight (cond (all (held q p) w.literals) (int_min w.weight (pos 0)) (pos 0))) (full_others p a part every)
-    ∙ go (all (holds p) w.literals)
+    ap (λ q. cond (list_all (held p q) w.literals) w.weight (cond (list_all (held q p) w.literals) (int_min w.weight (pos 0)) (pos 0))) (full_others p a part every)
+    ∙ go (list_all (holds p) w.literals)
   where
     go : (b : Bool) → cond b w.weight (cond b (int_min w.weight (pos 0)) (pos 0)) ≡ cond b w.weight (pos 0)
     go true = refl
@@ -62,22 +62,22 @@ module _ (f g : WishModel → ℤ) where
   sum_same same (w ∷ ws) n = ap₂ (λ x y. cond (w.level == n) x (pos 0) +ℤ y) (same w) (sum_same same ws n)
 
 -- a level that no wish has
-unused : (f : WishModel → ℤ) (ws : List WishModel) (n : ℕ) → any (λ w. nat_eq w.level n) ws ≡ false → sum_at f ws n ≡ pos 0
+unused : (f : WishModel → ℤ) (ws : List WishModel) (n : ℕ) → list_any (λ w. nat_eq w.level n) ws ≡ false → sum_at f ws n ≡ pos 0
 unused f [] n h = refl
 unused f (w ∷ ws) n h =
-    let b = or_parts (w.level == n) (any (λ w. nat_eq w.level n) ws) h in
+    let b = or_parts (w.level == n) (list_any (λ w. nat_eq w.level n) ws) h in
     ap₂ (λ x y. cond x (f w) (pos 0) +ℤ y) b.0 (unused f ws n b.1)
 
 -- the levels of the wishes that a file holds
-used_range : (wishes : List Wish) (n : ℕ) → any (λ w. nat_eq w.level n) (map wish_of wishes) ≡ true → (1 ≤ n) × (n ≤ top)
+used_range : (wishes : List Wish) (n : ℕ) → list_any (λ w. nat_eq w.level n) (map wish_of wishes) ≡ true → (1 ≤ n) × (n ≤ top)
 used_range [] n t = absurd (both_ways false refl t)
 used_range (w ∷ ws) n t = ⊎_elim
     (λ e. let q = eqb-true w.level n e in (omega (arith, w.low), omega (arith, w.high)))
     (used_range ws n)
-    (or_cases (w.level == n) (any (λ w. nat_eq w.level n) (map wish_of ws)) t)
+    (or_cases (w.level == n) (list_any (λ w. nat_eq w.level n) (map wish_of ws)) t)
 
 no_level : (f : WishModel → ℤ) (wishes : List Wish) (n : ℕ) → ((1 ≤ n) × (n ≤ top) → ⊥) → sum_at f (map wish_of wishes) n ≡ pos 0
-no_level f wishes n out = ⊎_elim (λ t. absurd (out (used_range wishes n t))) (unused f (map wish_of wishes) n) (cases_Bool (any (λ w. nat_eq w.level n) (map wish_of wishes)))
+no_level f wishes n out = ⊎_elim (λ t. absurd (out (used_range wishes n t))) (unused f (map wish_of wishes) n) (cases_Bool (list_any (λ w. nat_eq w.level n) (map wish_of wishes)))
 
 -- ---- the laws
 
@@ -126,7 +126,7 @@ module _ (wishes : List Wish) where
         level = d.level;
         used = ⊎_elim (λ t. t)
             (λ f. let a = unused (wish_cost x) (map wish_of wishes) d.level f in let b = unused (wish_cost y) (map wish_of wishes) d.level f in absurd (omega (arith, ints, d.less)))
-            (cases_Bool (any (λ w. nat_eq w.level d.level) (map wish_of wishes)));
+            (cases_Bool (list_any (λ w. nat_eq w.level d.level) (map wish_of wishes)));
         less = d.less;
         same = d.same;
       }

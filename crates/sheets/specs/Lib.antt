@@ -1,4 +1,3 @@
-pub mod Lists
 pub mod Sheets
 pub mod Literals
 pub mod Judging

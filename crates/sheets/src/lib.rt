@@ -12,7 +12,7 @@ mod scale;
 pub use both::Both;
 pub use first_then::FirstThen;
 pub use judge::Judge;
-pub use literals::{Literal, are_all_held, is_one_held};
+pub use literals::{Interpretation, Literal, are_all_held, is_one_held};
 pub use marks::{Mark, Sheet, WIDTH, first_marks, has_mark, with_mark, within_count};
 pub use part::PartSheet;
 pub use scale::Scale;

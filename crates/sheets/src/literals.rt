@@ -1,6 +1,6 @@
-// A plain mark, or "not" a mark.
+// A plain mark, or "not" a mark, and what it is judged by.
 ghost use Rattle.std.specs.Prelude.{◌≡◌};
-ghost use Rattle.sheets.specs.Lists.{any, all};
+ghost use Rattle.std.specs.List.{list_any, list_all};
 ghost use Rattle.sheets.specs.Literals.{held};
 
 use crate::marks::{Mark, Sheet, has_mark};
@@ -12,39 +12,50 @@ pub struct Literal {
     pub negated: bool,
 }
 
+// What literals are judged by. A plain mark is held if it is in `there`, and "not" a mark if the mark is missing from
+// `among`.
+#[derive(Clone, Copy, Debug, PartialEq, Eq)]
+pub struct Interpretation {
+    pub there: Sheet,
+    pub among: Sheet,
+}
+
+impl Interpretation {
+    // What is held by it holds in the sheet.
+    pub fn of_sheet(sheet: Sheet) -> Interpretation
+        ensures there { result.there ≡ sheet }
+        ensures among { result.among ≡ sheet }
+    {
+        Interpretation {
+            there: sheet,
+            among: sheet,
+        }
+    }
+}
+
 impl Literal {
-    // The mark is in `there`, or for "not" is missing from `among`.
-    pub fn is_held(self, there: Sheet, among: Sheet) -> bool
-        ensures { result ≡ held there among self }
+    // The literal is held by the interpretation.
+    pub fn is_held(self, by: Interpretation) -> bool
+        ensures { result ≡ held by.there by.among self }
     {
         if self.negated {
-            !has_mark(among, self.mark)
+            !has_mark(by.among, self.mark)
         } else {
-            has_mark(there, self.mark)
+            has_mark(by.there, self.mark)
         }
     }
 }
 
 // At least one of the literals is held.
-pub fn is_one_held(literals: &[Literal], there: Sheet, among: Sheet) -> bool
-    ensures { result ≡ any (held there among) literals.now }
+pub fn is_one_held(literals: &[Literal], by: Interpretation) -> bool
+    ensures { result ≡ list_any (held by.there by.among) literals.now }
 {
-    for literal in literals {
-        if literal.is_held(there, among) {
-            return true;
-        }
-    }
-    false
+    literals.iter().any(|literal| literal.is_held(by))
 }
 
 // Each of the literals is held.
-pub fn are_all_held(literals: &[Literal], there: Sheet, among: Sheet) -> bool
-    ensures { result ≡ all (held there among) literals.now }
+pub fn are_all_held(literals: &[Literal], by: Interpretation) -> bool
+    ensures { result ≡ list_all (held by.there by.among) literals.now }
 {
-    for literal in literals {
-        if !literal.is_held(there, among) {
-            return false;
-        }
-    }
-    true
+    literals.iter().all(|literal| literal.is_held(by))
 }

@@ -1,5 +1,5 @@
 // Marks and sheets.
-ghost use Rattle.std.specs.Prelude.{◌≡◌, ℕ, ◌-◌, ◌^◌, ◌<◌, min, ◌||◌, ltb, if◌then◌else◌, Decides, ◌==◌, bit_or, nat_lt};
+ghost use Rattle.std.specs.Prelude.{◌≡◌, ◌↔◌, ℕ, ◌-◌, ◌^◌, ◌<◌, min, ◌||◌, IsTrue, if◌then◌else◌, ◌==◌, bit_or, nat_lt};
 ghost use Rattle.sheets.specs.Sheets.{width, has, MarksBelow};
 
 // One thing that a sheet may have, by its number.
@@ -21,7 +21,7 @@ pub fn has_mark(sheet: Sheet, mark: Mark) -> bool
 // The sheet has only marks below the count.
 pub fn within_count(sheet: Sheet, count: u8) -> bool
     ensures value { result ≡ nat_lt sheet (2 ^ count) }
-    ensures meaning { Decides result (MarksBelow count sheet) }
+    ensures meaning { IsTrue result ↔ MarksBelow count sheet }
 {
     count >= WIDTH || sheet >> count == 0
 }
@@ -39,7 +39,7 @@ pub fn first_marks(count: u8) -> Sheet
 
 // The sheet with one more mark. A mark from `WIDTH` upward changes nothing.
 pub fn with_mark(sheet: Sheet, mark: Mark) -> Sheet
-    ensures value { result ≡ (if ltb mark width then bit_or sheet (2 ^ mark) else sheet) }
+    ensures value { result ≡ (if nat_lt mark width then bit_or sheet (2 ^ mark) else sheet) }
     ensures marks { (i : ℕ) → i < width → has result i ≡ (i == mark || has sheet i) }
 {
     if mark < WIDTH {

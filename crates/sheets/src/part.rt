@@ -1,11 +1,12 @@
 // What is known of a sheet.
-ghost use Rattle.std.specs.Prelude.{◌≡◌, Decides, MatchOption, bit_and};
+ghost use Rattle.std.specs.Prelude.{◌≡◌, ◌↔◌, IsTrue, MatchOption, bit_and};
 ghost use Rattle.sheets.specs.Sheets.{others, Apart, full, Full};
 
+use crate::literals::Interpretation;
 use crate::marks::Sheet;
 
 // The marks that are present, and those that are absent; the others are undecided.
-#[derive(Clone, Copy)]
+#[derive(Clone, Copy, Debug, PartialEq, Eq)]
 pub struct PartSheet {
     present: Sheet,
     absent: Sheet,
@@ -60,10 +61,32 @@ impl PartSheet {
         self.absent
     }
 
+    // What is held by it holds in every sheet within.
+    pub fn sure(self) -> Interpretation
+        ensures there { result.there ≡ self.present }
+        ensures among { result.among ≡ others self.absent }
+    {
+        Interpretation {
+            there: self.present,
+            among: !self.absent,
+        }
+    }
+
+    // What is held by it holds in some sheet within.
+    pub fn possible(self) -> Interpretation
+        ensures there { result.there ≡ others self.absent }
+        ensures among { result.among ≡ self.present }
+    {
+        Interpretation {
+            there: !self.absent,
+            among: self.present,
+        }
+    }
+
     // Each mark is present or absent.
     pub fn is_full(self) -> bool
         ensures value { result ≡ full self.present self.absent }
-        ensures meaning { Decides result (Full self.present self.absent) }
+        ensures meaning { IsTrue result ↔ Full self.present self.absent }
     {
         let decided = self.present | self.absent;
         decided == Sheet::MAX

@@ -1,10 +1,11 @@
 // Scales of sheets.
-ghost use Rattle.std.specs.Prelude.{◌≡◌, Decides};
+ghost use Rattle.std.specs.Prelude.{◌≡◌, ◌↔◌, IsTrue};
 ghost use Rattle.sheets.specs.Scaling.{Scaling, ScaleLaws};
 
 use crate::part::PartSheet;
 
-// Says what each sheet costs, and what the sheets within a part-sheet cost at least.
+// Says what each sheet costs, and what the sheets within a part-sheet cost at least. It compares costs itself, and not by
+// `Ord` of their type: two scales may order one kind of cost in two ways.
 pub trait Scale {
     type Cost: Copy;
 
@@ -21,7 +22,7 @@ pub trait Scale {
 
     // The costs are equal.
     fn same(&self, a: Self::Cost, b: Self::Cost) -> bool
-        ensures { Decides result (a ≡ b) };
+        ensures { IsTrue result ↔ (a ≡ b) };
 
     // What every scale keeps to.
     ghost lawful: { (s : Self) → ScaleLaws (scaling s) };

@@ -2,7 +2,7 @@
 use Rattle.std.proofs.Common.{◌≡◌, ℕ, zero, suc, ◌^◌, ◌<◌, true, false, List, [], length, get_or, refl, arith}
 use Rattle.std.proofs.lemmas.Bool.{both_ways, ne_eqb}
 use Rattle.std.proofs.lemmas.Int.{ints}
-use Rattle.sheets.specs.Lists.{all}
+use Rattle.std.specs.List.{list_all}
 use Rattle.sheets.specs.Sheets.{has}
 use Rattle.sheets.specs.Bits.{has_none, marks_below}
 use Rattle.rulefile.specs.Model.{RuleModel}
@@ -16,7 +16,7 @@ use Rattle.orders.specs.Searches.{present_at, absent_at, none, more}
 use Rattle.worked.specs.Cases.{at_most_one, each_other, if_missing, if_not_missing, budget, two_levels, CasesStand}
 
 -- nothing is in the closure, and mark 0 is in the sheet
-ungrounded_zero : (program : List RuleModel) (z : ℕ) → Satisfies z program → all (obeys 0) (reduct z program) ≡ true → has z 0 ≡ true → FirstUngrounded program z 0
+ungrounded_zero : (program : List RuleModel) (z : ℕ) → Satisfies z program → list_all (obeys 0) (reduct z program) ≡ true → has z 0 ≡ true → FirstUngrounded program z 0
 ungrounded_zero program z s o t = record {
   satisfies = s;
   closure = 0;

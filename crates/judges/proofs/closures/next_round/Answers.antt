@@ -2,7 +2,7 @@ use Rattle.std.proofs.Common.{map, sym, refl, ap, ◌∙◌}
 use Rattle.std.proofs.lemmas.List.{at_drop_all}
 use Rattle.std.proofs.lemmas.Bool.{cond-true, cond-false}
 use Rattle.rulefile.specs.Model.{rule_of, constraint_of}
-use Rattle.sheets.specs.Lists.{all}
+use Rattle.std.specs.List.{list_all}
 use Rattle.judges.specs.Rounds.{supported, with_heads, fired, round}
 use Rattle.judges.proofs.Steps.{carried}
 use Rattle.judges.proofs.closures.next_round.Goals as goal
@@ -15,10 +15,10 @@ loop-rule-preserved c =
     (elim c.if-has_support.branch [
       | then-has_support w ↦
           w.marks-is ∙ w.add_heads-marks.ensures ∙ ap (λ es. with_heads c.args.sheet es c.loop-rule.marks) w.as_slice-then-has_support.ensures.value
-          ∙ sym (cond-true _ _ _ (sym (w.if-has_support.ensures ∙ ap (λ ks. all (supported c.args.sheet c.loop-rule.marks) (map constraint_of ks)) c.as_slice.ensures.value)))
+          ∙ sym (cond-true _ _ _ (sym (w.if-has_support.ensures ∙ ap (λ ks. list_all (supported c.args.sheet c.loop-rule.marks) (map constraint_of ks)) c.as_slice.ensures.value)))
       | else-has_support w ↦
           w.marks-is
-          ∙ sym (cond-false _ _ _ (sym (w.if-has_support.ensures ∙ ap (λ ks. all (supported c.args.sheet c.loop-rule.marks) (map constraint_of ks)) c.as_slice.ensures.value)))
+          ∙ sym (cond-false _ _ _ (sym (w.if-has_support.ensures ∙ ap (λ ks. list_all (supported c.args.sheet c.loop-rule.marks) (map constraint_of ks)) c.as_slice.ensures.value)))
     ])
     ∙ c.loop-rule.invariant
 
