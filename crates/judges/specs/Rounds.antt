@@ -1,6 +1,6 @@
 -- How the program reaches the closure: from no mark, by rounds over the rules, until a round adds nothing. Only its own
 -- functions are described so; that the closure is reached is proved.
-use Rattle.std.specs.Prelude.{ℕ, ◌^◌, Bool, cond, ◌&&◌, List, [], ◌∷◌, bit_or, nat_le}
+use Rattle.std.specs.Prelude.{ℕ, ◌^◌, Bool, cond, ◌&&◌, List, fold, bit_or, nat_le}
 use Rattle.std.specs.List.{list_all}
 use Rattle.sheets.specs.Literals.{held, holds}
 use Rattle.rulefile.specs.declared.constraints.Element.{Element}
@@ -16,12 +16,10 @@ abbrev pub added : ℕ → Element → ℕ → ℕ
 added z e s = cond (plain e.literal && holds z e.literal) (bit_or s (2 ^ e.literal.mark)) s
 
 abbrev pub with_heads : ℕ → List Element → ℕ → ℕ
-with_heads z [] s = s
-with_heads z (e ∷ es) s = with_heads z es (added z e s)
+with_heads z es s = fold (λ marks e. added z e marks) s es
 
 abbrev pub fired : ℕ → RuleModel → ℕ → ℕ
 fired z r s = cond (list_all (supported z s) r.body) (with_heads z r.head.elements s) s
 
 abbrev pub round : ℕ → List RuleModel → ℕ → ℕ
-round z [] s = s
-round z (r ∷ rs) s = round z rs (fired z r s)
+round z rs s = fold (λ marks r. fired z r marks) s rs

@@ -1,7 +1,9 @@
 // The verdict on a sheet, by the rules of a file.
+ghost use Rattle.std.specs.Prelude.{◌≡◌};
 ghost use Rattle.rulefile.specs.Answers.{file_of};
 ghost use Rattle.rulefile.specs.Format.{decode, file_or_head_alone};
 ghost use Rattle.judges.specs.Verdicts.{Judged, Answered};
+ghost use Rattle.judges.specs.declared.answers.VerdictError.TheVariants.{Refused, Memory};
 
 use crate::verdicts::{Refusal, Verdict, rules_verdict};
 use rulefile::{RuleFile, read_or_head_alone};
@@ -13,6 +15,22 @@ use std::alloc::{AllocError, Global};
 pub enum VerdictError {
     Refused(Refusal),
     Memory,
+}
+
+impl From<Refusal> for VerdictError {
+    ghost from_gives = { λ why r. r ≡ Refused why };
+
+    fn from(why: Refusal) -> VerdictError {
+        VerdictError::Refused(why)
+    }
+}
+
+impl From<AllocError> for VerdictError {
+    ghost from_gives = { λ _ r. r ≡ Memory };
+
+    fn from(_e: AllocError) -> VerdictError {
+        VerdictError::Memory
+    }
 }
 
 // Whether the sheet is lawful, and if not, why; refused where a mark of it is not below the count.
@@ -29,12 +47,6 @@ pub fn sheet_verdict(file: &RuleFile, sheet: Sheet) -> Result<Verdict, Refusal>
 pub fn bytes_verdict(heap: Global, bytes: &[u8], sheet: Sheet) -> Result<Verdict, VerdictError>
     ensures { Answered (file_or_head_alone (decode bytes.now)) sheet result }
 {
-    let file = match read_or_head_alone(heap, bytes) {
-        Ok(file) => file,
-        Err(AllocError) => return Err(VerdictError::Memory),
-    };
-    match sheet_verdict(&file, sheet) {
-        Ok(verdict) => Ok(verdict),
-        Err(why) => Err(VerdictError::Refused(why)),
-    }
+    let file = read_or_head_alone(heap, bytes)?;
+    Ok(sheet_verdict(&file, sheet)?)
 }

@@ -30,11 +30,7 @@ impl Book {
 fn is_lawful(rules: &[Rule], sheet: Sheet) -> bool
     ensures { result ≡ lawful (map rule_of rules.now) sheet }
 {
-    match rules_verdict(rules, sheet) {
-        Verdict::Lawful => true,
-        Verdict::Broken(_) => false,
-        Verdict::Ungrounded(_) => false,
-    }
+    matches!(rules_verdict(rules, sheet), Verdict::Lawful)
 }
 
 impl Judge for Book {

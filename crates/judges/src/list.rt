@@ -10,7 +10,7 @@ ghost use Rattle.rulefile.proofs.Fits.{fit_parts};
 ghost use Rattle.judges.specs.Kept.{list_laws};
 
 use rulefile::{Clause, RuleFile};
-use sheets::{Judge, PartSheet, Sheet, is_one_held, within_count};
+use sheets::{Interpretation, Judge, PartSheet, is_one_held, within_count};
 use std::rc::Rc;
 
 // Allows the sheets of marks below the count in which each clause of a file has a literal that holds.
@@ -27,16 +27,13 @@ impl PrinterList {
     }
 }
 
-// Each clause has a literal that is held so.
-fn are_kept(clauses: &[Clause], there: Sheet, among: Sheet) -> bool
-    ensures { result ≡ list_all (list_any (held there among)) (map clause_of clauses.now) }
+// Each clause has a literal that is held.
+fn are_kept(clauses: &[Clause], by: Interpretation) -> bool
+    ensures { result ≡ list_all (list_any (held by.there by.among)) (map clause_of clauses.now) }
 {
-    for clause in clauses {
-        if !is_one_held(clause.literals.as_slice(), there, among) {
-            return false;
-        }
-    }
-    true
+    clauses
+        .iter()
+        .all(|clause| is_one_held(&clause.literals, by))
 }
 
 impl Judge for PrinterList {
@@ -51,6 +48,6 @@ impl Judge for PrinterList {
     // A present mark is not below the count, or a clause has no literal that holds in any sheet within.
     fn dead(&self, part: PartSheet) -> bool {
         !within_count(part.present(), self.file.count)
-            || !are_kept(self.file.clauses.as_slice(), !part.absent(), part.present())
+            || !are_kept(&self.file.clauses, part.possible())
     }
 }

@@ -12,14 +12,14 @@ use sheets::PartSheet;
 fn least_sum(constraint: &Constraint, part: PartSheet) -> u32
     ensures { result ≡ least part.present part.absent (constraint_of constraint.now) }
 {
-    sum(constraint, part.present(), !part.absent())
+    sum(constraint, part.sure())
 }
 
 // The weights of the elements that hold in some sheet within.
 fn greatest_sum(constraint: &Constraint, part: PartSheet) -> u32
     ensures { result ≡ greatest part.present part.absent (constraint_of constraint.now) }
 {
-    sum(constraint, !part.absent(), part.present())
+    sum(constraint, part.possible())
 }
 
 // The constraint holds in every sheet within, by its sums.
@@ -41,12 +41,7 @@ fn is_hopeless(constraint: &Constraint, part: PartSheet) -> bool
 fn are_sure(body: &[Constraint], part: PartSheet) -> bool
     ensures { result ≡ list_all (sure part.present part.absent) (map constraint_of body.now) }
 {
-    for constraint in body {
-        if !is_sure(constraint, part) {
-            return false;
-        }
-    }
-    true
+    body.iter().all(|constraint| is_sure(constraint, part))
 }
 
 // The rule fails in every sheet within, by its sums.
@@ -59,10 +54,5 @@ fn is_dead_rule(rule: &Rule, part: PartSheet) -> bool
 pub(crate) fn has_dead_rule(rules: &[Rule], part: PartSheet) -> bool
     ensures { result ≡ list_any (dead_rule part.present part.absent) (map rule_of rules.now) }
 {
-    for rule in rules {
-        if is_dead_rule(rule, part) {
-            return true;
-        }
-    }
-    false
+    rules.iter().any(|rule| is_dead_rule(rule, part))
 }

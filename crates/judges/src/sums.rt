@@ -1,37 +1,40 @@
 // The sum of a weight constraint.
-ghost use Rattle.std.specs.Prelude.{◌≡◌};
+ghost use Rattle.std.specs.Prelude.{◌≡◌, ◌≤◌, length};
 ghost use Rattle.sheets.specs.Literals.{held};
 ghost use Rattle.rulefile.specs.Model.{constraint_of};
 ghost use Rattle.judges.specs.Programs.{weigh, at_most, satisfied};
 
-use rulefile::Constraint;
-use sheets::Sheet;
+use rulefile::{Constraint, Element};
+use sheets::{Interpretation, Sheet};
 
-// The weights of the elements that are held so.
-pub(crate) fn sum(constraint: &Constraint, there: Sheet, among: Sheet) -> u32
-    ensures { result ≡ weigh (held there among) (constraint_of constraint.now).elements }
+// The weights of the elements that are held.
+fn held_weight(elements: &[Element], by: Interpretation) -> u32
+    requires { length elements.now ≤ 32 }
+    ensures { result ≡ weigh (held by.there by.among) elements.now }
 {
-    let mut total = 0u32;
-    for element in constraint.elements.as_slice() {
-        if element.literal.is_held(there, among) {
-            total += u32::from(element.weight);
-        }
-    }
-    total
+    elements
+        .iter()
+        .filter(|element| element.literal.is_held(by))
+        .map(|element| u32::from(element.weight))
+        .sum()
+}
+
+// The sum of the constraint.
+pub(crate) fn sum(constraint: &Constraint, by: Interpretation) -> u32
+    ensures { result ≡ weigh (held by.there by.among) (constraint_of constraint.now).elements }
+{
+    held_weight(&constraint.elements, by)
 }
 
 pub(crate) fn is_at_most(total: u32, high: Option<u32>) -> bool
     ensures { result ≡ at_most total high }
 {
-    match high {
-        Some(most) => total <= most,
-        None => true,
-    }
+    high.is_none_or(|most| total <= most)
 }
 
 pub(crate) fn is_satisfied(constraint: &Constraint, sheet: Sheet) -> bool
     ensures { result ≡ satisfied sheet (constraint_of constraint.now) }
 {
-    let total = sum(constraint, sheet, sheet);
+    let total = sum(constraint, Interpretation::of_sheet(sheet));
     constraint.low <= total && is_at_most(total, constraint.high)
 }

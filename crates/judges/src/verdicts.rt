@@ -6,7 +6,7 @@ ghost use Rattle.judges.specs.Numbers.{number};
 ghost use Rattle.judges.specs.Programs.{Satisfies};
 ghost use Rattle.judges.specs.Verdicts.{FirstBroken, FirstMissing, Says};
 
-use crate::closures::closure;
+use crate::closures::Reduct;
 use crate::sums::is_satisfied;
 use rulefile::Rule;
 use sheets::{Mark, Sheet, WIDTH, has_mark};
@@ -26,7 +26,7 @@ pub enum Verdict {
 #[derive(Clone, Copy, Debug, PartialEq, Eq)]
 pub enum Refusal {
     // The sheet has a mark not below the count.
-    MarkRange,
+    MarkRange = 21,
 }
 
 impl Refusal {
@@ -34,9 +34,7 @@ impl Refusal {
     pub fn number(self) -> u8
         ensures { result ≡ number self }
     {
-        match self {
-            Refusal::MarkRange => 21,
-        }
+        self as u8
     }
 }
 
@@ -63,12 +61,7 @@ fn first_broken(rules: &[Rule], sheet: Sheet) -> Option<usize>
 fn first_missing(sheet: Sheet, other: Sheet) -> Option<Mark>
     ensures { MatchOption result (Subset sheet other) (FirstMissing sheet other) }
 {
-    for mark in 0..WIDTH {
-        if has_mark(sheet, mark) && !has_mark(other, mark) {
-            return Some(mark);
-        }
-    }
-    None
+    (0..WIDTH).find(|mark| has_mark(sheet, *mark) && !has_mark(other, *mark))
 }
 
 pub(crate) fn rules_verdict(rules: &[Rule], sheet: Sheet) -> Verdict
@@ -77,7 +70,8 @@ pub(crate) fn rules_verdict(rules: &[Rule], sheet: Sheet) -> Verdict
     if let Some(number) = first_broken(rules, sheet) {
         return Verdict::Broken(number);
     }
-    match first_missing(sheet, closure(rules, sheet)) {
+    let reduct = Reduct { rules, sheet };
+    match first_missing(sheet, reduct.closure()) {
         Some(mark) => Verdict::Ungrounded(mark),
         None => Verdict::Lawful,
     }

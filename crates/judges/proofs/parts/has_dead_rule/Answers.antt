@@ -1,22 +1,10 @@
-use Rattle.std.proofs.Common.{sym, ◌∙◌}
+use Rattle.std.proofs.Common.{rules, tests}
+use Rattle.std.proofs.lemmas.Iterator.{YieldsList-from_slice}
+use Rattle.std.proofs.lemmas.Iterator.Search.{any_from_yields_List}
 use Rattle.rulefile.specs.Model.{rule_of}
 use Rattle.judges.specs.Books.{dead_rule}
-use Rattle.judges.proofs.Steps.{any_hit, any_miss, any_none}
+use Rattle.judges.proofs.Chains.{any_mapped}
 use Rattle.judges.proofs.parts.has_dead_rule.Goals as goal
 
-pub returns-then-is_dead_rule : goal.returns-then-is_dead_rule
-returns-then-is_dead_rule c =
-    sym (any_hit (dead_rule c.args.part.present c.args.part.absent) rule_of c.args.rules.now c.loop-rule.rule-index
-    c.rule-item.result c.loop-rule-test.true c.rule-item.is (sym c.if-is_dead_rule.ensures))
-    ∙ c.loop-rule.invariant
-
-pub loop-rule-preserved : goal.loop-rule-preserved
-loop-rule-preserved c =
-    any_miss (dead_rule c.args.part.present c.args.part.absent) rule_of c.args.rules.now c.loop-rule.rule-index
-    c.rule-item.result c.loop-rule-test.true c.rule-item.is (sym c.if-is_dead_rule.ensures)
-    ∙ c.loop-rule.invariant
-
 pub returns : goal.returns
-returns c =
-    sym (any_none (dead_rule c.args.part.present c.args.part.absent) rule_of c.args.rules.now c.loop-rule.rule-index c.loop-rule-test.false)
-    ∙ c.loop-rule.invariant
+returns c = any_mapped (dead_rule c.args.part.present c.args.part.absent) rule_of c.args.rules.now c.any.result (any_from_yields_List _ _ _ _ c.any.ensures.ran (YieldsList-from_slice c.args.rules.now cc) (λ x b q k. search (rules, tests)))
