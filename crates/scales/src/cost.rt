@@ -1,28 +1,11 @@
 // What a sheet costs at each level.
-ghost use Rattle.std.specs.Prelude.{◌≡◌, Decides};
-ghost use Rattle.std.specs.Cmp.Lexicographic.{pointwise};
-ghost use Rattle.std.specs.Ordering.{int_eq};
-ghost use Rattle.scales.specs.Wishes.{cost_at, first_less};
-ghost use Rattle.std.specs.Cmp.Rules.{comparing};
-ghost use Rattle.std.proofs.Common.{rules};
+ghost use Rattle.std.specs.Prelude.{◌≡◌};
+ghost use Rattle.scales.specs.Wishes.{cost_at};
 
 // The costs from level 8 down to level 1, in the order in which they are compared.
-#[derive(Clone, Copy, Debug)]
+#[derive(Clone, Copy, Debug, PartialEq, Eq, PartialOrd, Ord)]
 pub struct LevelCost {
     pub(crate) levels: [i32; 8],
-}
-
-impl PartialEq for LevelCost {
-    ghost eq = { λ x y. pointwise int_eq x.levels y.levels };
-
-    ghost laws = { Prim.search (comparing, rules) };
-
-    fn eq(&self, other: &LevelCost) -> bool
-        ensures value { result ≡ pointwise int_eq self.now.levels other.now.levels }
-        ensures meaning { Decides result (self.now ≡ other.now) }
-    {
-        self.levels == other.levels
-    }
 }
 
 impl LevelCost {
@@ -34,12 +17,5 @@ impl LevelCost {
             1..=8 => self.levels[usize::from(8 - level)],
             _ => 0,
         }
-    }
-
-    // At the greatest level at which the costs differ, this one is less.
-    pub(crate) fn is_less(self, other: LevelCost) -> bool
-        ensures { result ≡ first_less self.levels other.levels }
-    {
-        self.levels < other.levels
     }
 }

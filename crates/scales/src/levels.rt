@@ -1,5 +1,5 @@
 // The wishes of a file, as a scale.
-ghost use Rattle.std.specs.Prelude.{◌≡◌, ℕ, Decides};
+ghost use Rattle.std.specs.Prelude.{◌≡◌, ◌↔◌, ℕ, IsTrue};
 ghost use Rattle.scales.specs.Levels.{wishes_of, levels_of, cheaper};
 ghost use Rattle.scales.specs.Wishes.{wish_cost, sum_at, cost_at, Dominates};
 ghost use Rattle.scales.specs.Sums.{levels_laws};
@@ -9,6 +9,9 @@ use crate::wishes::level_floor;
 use rulefile::RuleFile;
 use sheets::{PartSheet, Scale, Sheet};
 use std::rc::Rc;
+
+// Every level, in the order in which costs are compared.
+const LEVELS: [u8; 8] = [8, 7, 6, 5, 4, 3, 2, 1];
 
 // Costs a sheet by the wishes of a file, which it shares with judges and other scales.
 #[derive(Drop)]
@@ -34,7 +37,7 @@ impl Levels {
     // The cost of the one sheet is below that of the other; that is, the one dominates the other.
     pub fn dominates(&self, sheet: Sheet, other: Sheet) -> bool
         ensures value { result ≡ cheaper (wishes_of self.now) sheet other }
-        ensures meaning { Decides result (Dominates (wishes_of self.now) sheet other) }
+        ensures meaning { IsTrue result ↔ Dominates (wishes_of self.now) sheet other }
     {
         self.below(self.cost(sheet), self.cost(other))
     }
@@ -48,27 +51,15 @@ impl Scale for Levels {
     ghost lawful = { λ l. levels_laws (wishes_of l) };
 
     fn floor(&self, part: PartSheet) -> LevelCost {
-        let file = &*self.file;
         LevelCost {
-            levels: [
-                level_floor(file, 8, part),
-                level_floor(file, 7, part),
-                level_floor(file, 6, part),
-                level_floor(file, 5, part),
-                level_floor(file, 4, part),
-                level_floor(file, 3, part),
-                level_floor(file, 2, part),
-                level_floor(file, 1, part),
-            ],
+            levels: LEVELS.map(|level| level_floor(&self.file, level, part)),
         }
     }
 
     fn below(&self, a: LevelCost, b: LevelCost) -> bool {
-        a.is_less(b)
+        a < b
     }
 
-    // The lemma is for a must-fail edit of this test: with it, only the goal that the edit breaks stays open.
-    #[tactic(auto, using(crate::specs::Orders::less_turned))]
     fn same(&self, a: LevelCost, b: LevelCost) -> bool {
         a == b
     }

@@ -4,8 +4,10 @@
 mod cost;
 mod distance;
 mod levels;
+mod theorems;
 mod wishes;
 
 pub use cost::LevelCost;
 pub use distance::Distance;
 pub use levels::Levels;
+pub use theorems::costs_stand;

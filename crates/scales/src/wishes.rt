@@ -10,10 +10,9 @@ use sheets::{PartSheet, are_all_held};
 fn wish_floor(wish: &Wish, part: PartSheet) -> i16
     ensures { result ≡ wish_floor part.present part.absent (wish_of wish.now) }
 {
-    let literals = wish.literals.as_slice();
-    if are_all_held(literals, part.present(), !part.absent()) {
+    if are_all_held(&wish.literals, part.sure()) {
         wish.weight
-    } else if are_all_held(literals, !part.absent(), part.present()) {
+    } else if are_all_held(&wish.literals, part.possible()) {
         wish.weight.min(0)
     } else {
         0
