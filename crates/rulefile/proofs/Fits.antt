@@ -1,10 +1,9 @@
 -- The limits of a file, as facts and as tests.
 use Rattle.std.proofs.Common.{◌≡◌, ℕ, ◌^◌, ◌<◌, ◌≤◌, Bool, true, ltb, leb, List, length, Decides, refl}
-use Rattle.std.specs.List.{AllByRecursion}
+use Rattle.std.specs.List.{list_all, AllByRecursion}
 use Rattle.std.proofs.lemmas.Bool.Decides.{Decides-and, Decides-ltb, Decides-like}
 use Rattle.std.proofs.ByRecursion.{Decides-by_and}
 use Rattle.std.proofs.lemmas.Bool.{leb-true, le-leb}
-use Rattle.sheets.specs.Lists.{all}
 use Rattle.sheets.specs.Sheets.{width}
 use Rattle.sheets.specs.declared.literals.Literal.{Literal}
 use Rattle.rulefile.specs.declared.constraints.Element.{Element}
@@ -15,8 +14,8 @@ use Rattle.rulefile.specs.Laws.{LiteralsBelow, ConstraintBelow, RuleBelow, Fits}
 decides_leb : (m n : ℕ) → Decides (leb m n) (m ≤ n)
 decides_leb m n = (leb-true m n, le-leb m n)
 
-decides_all : {A : Type 0} (p : A → Bool) (P : A → Type 0) → ((x : A) → Decides (p x) (P x)) → (xs : List A) → Decides (all p xs) (AllByRecursion P xs)
-decides_all p P each xs = Decides-by_and p P (all p) each refl (λ _ _. refl) xs
+decides_all : {A : Type 0} (p : A → Bool) (P : A → Type 0) → ((x : A) → Decides (p x) (P x)) → (xs : List A) → Decides (list_all p xs) (AllByRecursion P xs)
+decides_all p P each xs = Decides-by_and p P (list_all p) each refl (λ _ _. refl) xs
 
 literals : (n : ℕ) (ls : List Literal) → Decides (literals_below n ls) (LiteralsBelow n ls)
 literals n ls = decides_all (λ (l : Literal). ltb l.mark n) (λ (l : Literal). l.mark < n) (λ l. Decides-ltb l.mark n) ls

@@ -1,6 +1,6 @@
 -- The limits that every file keeps, as tests.
 use Rattle.std.specs.Prelude.{ℕ, ◌^◌, Bool, ◌&&◌, ltb, List, length, nat_le, nat_lt}
-use Rattle.sheets.specs.Lists.{all}
+use Rattle.std.specs.List.{list_all}
 use Rattle.sheets.specs.Sheets.{width}
 use Rattle.sheets.specs.declared.literals.Literal.{Literal}
 use Rattle.rulefile.specs.declared.constraints.Element.{Element}
@@ -8,13 +8,13 @@ use Rattle.rulefile.specs.Model.{ConstraintModel, RuleModel, WishModel, FileMode
 
 -- the marks of all literals are below n
 abbrev pub literals_below : ℕ → List Literal → Bool
-literals_below n = all (λ (l : Literal). ltb l.mark n)
+literals_below n = list_all (λ (l : Literal). ltb l.mark n)
 
 abbrev pub constraint_below : ℕ → ConstraintModel → Bool
-constraint_below n k = all (λ (e : Element). ltb e.literal.mark n) k.elements
+constraint_below n k = list_all (λ (e : Element). ltb e.literal.mark n) k.elements
 
 abbrev pub rule_below : ℕ → RuleModel → Bool
-rule_below n r = constraint_below n r.head && all (constraint_below n) r.body
+rule_below n r = constraint_below n r.head && list_all (constraint_below n) r.body
 
 -- at most 256 of a kind
 abbrev pub is_few : {A : Type 0} → List A → Bool
@@ -26,7 +26,7 @@ is_fit f =
     nat_le 1 f.count
     && (nat_le f.count width
     && (nat_lt f.house (2 ^ f.count)
-    && (all (rule_below f.count) f.rules
-    && (all (literals_below f.count) f.clauses
-    && (all (λ (w : WishModel). literals_below f.count w.literals) f.wishes
+    && (list_all (rule_below f.count) f.rules
+    && (list_all (literals_below f.count) f.clauses
+    && (list_all (λ (w : WishModel). literals_below f.count w.literals) f.wishes
     && (is_few f.rules && (is_few f.clauses && (is_few f.wishes && is_few f.acts))))))))
