@@ -1,10 +1,9 @@
 -- The limits of a file, as facts and as tests.
 use Rattle.std.proofs.Common.{◌≡◌, ℕ, ◌^◌, ◌<◌, ◌≤◌, Bool, true, ltb, leb, List, length, Decides, refl}
-use Rattle.std.specs.List.{AllByRecursion}
+use Rattle.std.specs.List.{list_all, AllByRecursion}
 use Rattle.std.proofs.lemmas.Bool.Decides.{Decides-and, Decides-ltb, Decides-like}
 use Rattle.std.proofs.ByRecursion.{Decides-by_and}
 use Rattle.std.proofs.lemmas.Bool.{leb-true, le-leb}
-use Rattle.std.specs.List.{list_all}
 use Rattle.sheets.specs.Sheets.{width}
 use Rattle.sheets.specs.declared.literals.Literal.{Literal}
 use Rattle.rulefile.specs.declared.constraints.Element.{Element}

@@ -1,4 +1,5 @@
 pub mod Numbers
+pub mod Words
 pub mod Ranges
 pub mod Model
 pub mod Limits

@@ -1,9 +1,8 @@
 // One record, cut off the bytes of a file.
 ghost use Rattle.std.specs.Prelude.{◌≡◌, ◌<◌, ◌&&◌, length, Err, nat_le};
-ghost use Rattle.rulefile.specs.Format.{cut as cut_spec, kind_of};
+ghost use Rattle.rulefile.specs.Format.{cut as cut_spec};
 ghost use Rattle.rulefile.specs.Answers.{parsed_record, Shorter};
 
-use crate::records::Kind;
 use crate::refusals::Refusal;
 
 // A record: its kind, its body, and the bytes after it.
@@ -53,17 +52,4 @@ pub(crate) fn cut(bytes: &[u8]) -> Result<Record<'_>, Refusal>
     let kind = u16::from_le_bytes([*k0, *k1]);
     let (body, after) = rest.split_at(size);
     Ok(Record { kind, body, after })
-}
-
-pub(crate) fn kind_of(code: u16) -> Result<Kind, Refusal>
-    ensures { result ≡ kind_of code }
-{
-    match code {
-        1 => Ok(Kind::Head),
-        2 => Ok(Kind::Rule),
-        3 => Ok(Kind::Clause),
-        4 => Ok(Kind::Wish),
-        5 => Ok(Kind::Act),
-        _ => Err(Refusal::UnknownKind),
-    }
 }

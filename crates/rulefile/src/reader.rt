@@ -7,7 +7,7 @@ ghost use Rattle.rulefile.specs.Reading.{Reading};
 
 use crate::body::{act, clause, head, rule, wish};
 use crate::files::RuleFile;
-use crate::frame::{Record, cut, kind_of};
+use crate::frame::{Record, cut};
 use crate::records::{Act, Clause, Kind, Rule};
 use crate::refusals::{BadFile, Fault, ReadError, Refusal};
 use crate::wishes::Wish;
@@ -45,7 +45,7 @@ fn room(n: usize) -> Result<(), Refusal>
 fn begin(heap: Global, r: &Record<'_>) -> Result<Draft, Refusal>
     ensures { first_spec r.now.kind r.now.body.now ≡ parsed_draft result }
 {
-    let Kind::Head = kind_of(r.kind)? else {
+    let Kind::Head = Kind::try_from(r.kind)? else {
         return Err(Refusal::HeadMisplaced);
     };
     let (count, house) = head(r.body)?;
@@ -105,7 +105,7 @@ impl Draft {
     fn add(&mut self, heap: Global, r: &Record<'_>) -> Result<(), Fault>
         ensures { Parses (λ _. draft_of self.new) (later (draft_of self.old) r.now.kind r.now.body.now) result [] }
     {
-        match kind_of(r.kind)? {
+        match Kind::try_from(r.kind)? {
             Kind::Head => Err(Fault::Bad(Refusal::HeadMisplaced)),
             Kind::Rule => self.add_rule(heap, r.body),
             Kind::Clause => self.add_clause(heap, r.body),

@@ -2,16 +2,37 @@
 ghost use Rattle.std.specs.Prelude.{◌≤◌, vec_len};
 
 use crate::constraints::Constraint;
+use crate::refusals::Refusal;
 use sheets::{Literal, Mark, Sheet};
 
 // What a record is.
-#[derive(Clone, Copy)]
+#[derive(Clone, Copy, Debug, PartialEq, Eq)]
 pub enum Kind {
     Head,
     Rule,
     Clause,
     Wish,
     Act,
+}
+
+impl TryFrom<u16> for Kind {
+    type Error = Refusal;
+
+    ghost use Rattle.std.specs.Prelude.{◌≡◌};
+    ghost use Rattle.rulefile.specs.Format.{kind_of};
+
+    ghost try_from_gives = { λ code r. r ≡ kind_of code };
+
+    fn try_from(code: u16) -> Result<Kind, Refusal> {
+        match code {
+            1 => Ok(Kind::Head),
+            2 => Ok(Kind::Rule),
+            3 => Ok(Kind::Clause),
+            4 => Ok(Kind::Wish),
+            5 => Ok(Kind::Act),
+            _ => Err(Refusal::UnknownKind),
+        }
+    }
 }
 
 // The head holds, or a constraint of the body does not.
@@ -30,7 +51,7 @@ pub struct Clause {
 }
 
 // A call on a marking order. Its marks are tested when it is called, not when it is read.
-#[derive(Clone, Copy)]
+#[derive(Clone, Copy, Debug, PartialEq, Eq)]
 pub enum Act {
     Pin(Mark),
     Bar(Mark),

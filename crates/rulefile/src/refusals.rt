@@ -1,33 +1,36 @@
 // Why a file is not read.
-ghost use Rattle.std.specs.Prelude.{◌≡◌};
+ghost use Rattle.std.specs.Prelude.{◌≡◌, Some};
 ghost use Rattle.rulefile.specs.Numbers.{number};
+ghost use Rattle.rulefile.specs.Words.{refusal_words, bad_file_words, read_error_words};
 ghost use Rattle.rulefile.specs.declared.refusals.Fault.TheVariants.{Bad, Memory};
 
 use std::alloc::{AllocError, AllocFailed};
+use std::error::Error;
+use std::fmt;
 
 // Why a file is refused.
 #[derive(Clone, Copy, Debug, PartialEq, Eq)]
 pub enum Refusal {
     // The file has more than 32,768 bytes.
-    FileTooLong,
+    FileTooLong = 10,
     // One to three bytes are left for a record, or the file is empty.
-    RecordCut,
+    RecordCut = 11,
     // A record's length is not from 2 to 1,024.
-    LengthRange,
+    LengthRange = 12,
     // A record's length exceeds the bytes left after it.
-    LengthPastEnd,
+    LengthPastEnd = 13,
     // A record's kind is not from 1 to 5.
-    UnknownKind,
+    UnknownKind = 14,
     // The first record is not a head, or a later one is.
-    HeadMisplaced,
+    HeadMisplaced = 15,
     // The record is the 257th of its kind.
-    TooManyOfKind,
+    TooManyOfKind = 16,
     // A body ends before a field, or goes on after its last.
-    BodyLength,
+    BodyLength = 17,
     // A number is outside its range.
-    OutOfRange,
+    OutOfRange = 18,
     // A mark of an element or of the house sheet is not below the count.
-    MarkRange,
+    MarkRange = 19,
 }
 
 impl Refusal {
@@ -35,20 +38,32 @@ impl Refusal {
     pub fn number(self) -> u8
         ensures { result ≡ number self }
     {
-        match self {
-            Refusal::FileTooLong => 10,
-            Refusal::RecordCut => 11,
-            Refusal::LengthRange => 12,
-            Refusal::LengthPastEnd => 13,
-            Refusal::UnknownKind => 14,
-            Refusal::HeadMisplaced => 15,
-            Refusal::TooManyOfKind => 16,
-            Refusal::BodyLength => 17,
-            Refusal::OutOfRange => 18,
-            Refusal::MarkRange => 19,
-        }
+        self as u8
     }
 }
+
+impl fmt::Display for Refusal {
+    ghost output = { λ why. Some (refusal_words why) };
+
+    fn fmt<W: fmt::Write>(&self, f: &mut fmt::Formatter<W>) -> fmt::Result {
+        f.write_str(match self {
+            Refusal::FileTooLong => "the file is longer than 32768 bytes",
+            Refusal::RecordCut =>
+                "fewer than four bytes are left for a record's length, or the file is empty",
+            Refusal::LengthRange => "a record's length is not from 2 to 1024",
+            Refusal::LengthPastEnd => "a record's length is more than the bytes left after it",
+            Refusal::UnknownKind => "a record's kind is not from 1 to 5",
+            Refusal::HeadMisplaced => "the first record is not a head, or a later one is",
+            Refusal::TooManyOfKind => "there are more than 256 records of this kind",
+            Refusal::BodyLength => "a record's body ends before a field, or goes on after its last",
+            Refusal::OutOfRange => "a number is outside its range",
+            Refusal::MarkRange =>
+                "a mark of an element or of the house sheet is not below the count",
+        })
+    }
+}
+
+impl Error for Refusal {}
 
 // A refused file: why, and the offset of the first byte of the record concerned.
 #[derive(Clone, Copy, Debug, PartialEq, Eq)]
@@ -57,12 +72,35 @@ pub struct BadFile {
     pub at: u32,
 }
 
+impl fmt::Display for BadFile {
+    ghost output = { λ bad. Some (bad_file_words bad) };
+
+    fn fmt<W: fmt::Write>(&self, f: &mut fmt::Formatter<W>) -> fmt::Result {
+        write!(f, "refused {} at {}", self.why.number(), self.at)
+    }
+}
+
+impl Error for BadFile {}
+
 // Why a file was not read: it is refused, or memory is wanting.
 #[derive(Clone, Copy, Debug, PartialEq, Eq)]
 pub enum ReadError {
     Refused(BadFile),
     Memory,
 }
+
+impl fmt::Display for ReadError {
+    ghost output = { λ error. Some (read_error_words error) };
+
+    fn fmt<W: fmt::Write>(&self, f: &mut fmt::Formatter<W>) -> fmt::Result {
+        match self {
+            ReadError::Refused(bad) => write!(f, "{bad}"),
+            ReadError::Memory => f.write_str("no memory to read the file"),
+        }
+    }
+}
+
+impl Error for ReadError {}
 
 // Why a part of a file was not read, before the offset is known.
 #[derive(Clone, Copy)]
