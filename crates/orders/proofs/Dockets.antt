@@ -2,7 +2,7 @@
 use Rattle.std.proofs.Common.{◌≡◌, ℕ, ◌+◌, ◌-◌, ◌<◌, ◌≤◌, Bool, true, false, cond, List, [], ◌∷◌, ◌++◌, length, get_or, take, set, Some, None, Option, sym, refl, ap, ◌∙◌, arith}
 use Rattle.std.proofs.lemmas.List.{length-take-le, length_push, take_more, take_more_set}
 use Rattle.std.proofs.lemmas.Bool.{and_parts, and_from, leb-false, lt-ltb}
-use Rattle.sheets.specs.Lists.{all}
+use Rattle.std.specs.List.{list_all}
 use Rattle.sheets.specs.Sheets.{width}
 use Rattle.orders.specs.declared.acts.Act.{Act}
 use Rattle.orders.specs.declared.acts.Act.TheVariants.{Pin, Bar, Strike}
@@ -18,18 +18,18 @@ standing_length d = length-take-le d.len d.acts (omega (arith, d.few, d.room))
 
 -- ---- acts that name only marks that there are
 
-pub all_push : (acts : List Act) (a : Act) → all in_range acts ≡ true → in_range a ≡ true → all in_range (acts ++ (a ∷ [])) ≡ true
+pub all_push : (acts : List Act) (a : Act) → list_all in_range acts ≡ true → in_range a ≡ true → list_all in_range (acts ++ (a ∷ [])) ≡ true
 all_push [] a p q = and_from (in_range a) true q refl
 all_push (x ∷ acts) a p q =
-    let r = and_parts (in_range x) (all in_range acts) p in
-    and_from (in_range x) (all in_range (acts ++ (a ∷ []))) r.0 (all_push acts a r.1 q)
+    let r = and_parts (in_range x) (list_all in_range acts) p in
+    and_from (in_range x) (list_all in_range (acts ++ (a ∷ []))) r.0 (all_push acts a r.1 q)
 
-pub all_undone : (acts : List Act) → all in_range acts ≡ true → all in_range (undone acts) ≡ true
+pub all_undone : (acts : List Act) → list_all in_range acts ≡ true → list_all in_range (undone acts) ≡ true
 all_undone [] p = refl
 all_undone (a ∷ []) p = refl
 all_undone (a ∷ (b ∷ acts)) p =
-    let r = and_parts (in_range a) (all in_range (b ∷ acts)) p in
-    and_from (in_range a) (all in_range (undone (b ∷ acts))) r.0 (all_undone (b ∷ acts) r.1)
+    let r = and_parts (in_range a) (list_all in_range (b ∷ acts)) p in
+    and_from (in_range a) (list_all in_range (undone (b ∷ acts))) r.0 (all_undone (b ∷ acts) r.1)
 
 -- ---- an act that is not refused
 
@@ -57,10 +57,10 @@ module _ (n : ℕ) (acts : List Act) where
       let from_full = (none_that f SheetStruck (DocketFull ∷ []) from_sheet).1 in
       leb-false most_acts (length acts) (none_that f DocketFull [] from_full).0
 
-  pub all_taken : (a : Act) → n ≤ width → all in_range acts ≡ true → all in_range (taken n acts a) ≡ true
+  pub all_taken : (a : Act) → n ≤ width → list_all in_range acts ≡ true → list_all in_range (taken n acts a) ≡ true
   all_taken a few low = go (refused_act n acts a) refl
     where
-      go : (o : Option Refusal) → refused_act n acts a ≡ o → all in_range (unless o acts (acts ++ (a ∷ []))) ≡ true
+      go : (o : Option Refusal) → refused_act n acts a ≡ o → list_all in_range (unless o acts (acts ++ (a ∷ []))) ≡ true
       go (Some why) e = low
       go None e = all_push acts a low (accepted_range a few e)
 

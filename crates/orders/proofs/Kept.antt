@@ -1,6 +1,6 @@
 -- What every log keeps, from the run that made it.
 use Rattle.std.proofs.Common.{◌≡◌, ℕ, ◌+◌, ◌≤◌, min, true, ◌⊎◌, List, [], ◌∷◌, ◌++◌, length, take, Some, None, Option, sym, refl, ap, ◌∙◌, subst, ap₂, subst₂, inl, inr, ⊎_elim, arith}
-use Rattle.sheets.specs.Lists.{all}
+use Rattle.std.specs.List.{list_all}
 use Rattle.sheets.specs.Judging.{Judging, JudgeLaws}
 use Rattle.sheets.specs.Scaling.{Scaling, ScaleLaws}
 use Rattle.orders.specs.declared.acts.Act.{Act}
@@ -58,7 +58,7 @@ module _ {C : Type 0} (j : Judging) (s : Scaling C) (jl : JudgeLaws j) (x : Sear
 module _ {C : Type 0} (j : Judging) (s : Scaling C) (jl : JudgeLaws j) (sl : ScaleLaws s) where
   -- ---- a settling and an advance, k steps after their search began
 
-  module _ (acts : List Act) (low : all in_range acts ≡ true) where
+  module _ (acts : List Act) (low : list_all in_range acts ≡ true) where
     sound_from : (x : Search) (n : ℕ) → Steps (under j acts) s start n x → Sound (under j acts) s x
     sound_from x n steps = sound_reached (under j acts) s (under_laws j acts low jl) sl x n steps
 
@@ -148,7 +148,7 @@ module _ {C : Type 0} (j : Judging) (s : Scaling C) (jl : JudgeLaws j) (sl : Sca
     first : Search
     many : ℕ
     more : ℕ
-    low : all in_range w.acts ≡ true
+    low : list_all in_range w.acts ≡ true
     steps : Steps (under j w.acts) s start many first
     held : p.held ≡ priced s first.held
     then : Steps (under j w.acts) s first more w.search
@@ -163,7 +163,7 @@ module _ {C : Type 0} (j : Judging) (s : Scaling C) (jl : JudgeLaws j) (sl : Sca
         first = u.search;
         many = k + a.0.taken;
         more = mid.0;
-        low = ap (all in_range) (sym same) ∙ g.low;
+        low = ap (list_all in_range) (sym same) ∙ g.low;
         steps = subst (λ (acts : List Act). Steps (under j acts) s start (k + a.0.taken) u.search) same on;
         held = ap (λ q. q.held) (same_shown p a.0 a.1) ∙ a.2.held;
         then = subst (λ (acts : List Act). Steps (under j acts) s u.search mid.0 w.search) (sym mid.1) mid.2;

@@ -1,7 +1,7 @@
 -- Runs of an order, call by call, and what they keep.
 use Rattle.std.proofs.Common.{◌≡◌, ℕ, suc, ◌+◌, ◌≤◌, true, List, [], ◌∷◌, ◌++◌, length, sym, refl, ap, ◌∙◌, subst, arith}
 use Rattle.std.proofs.lemmas.Bool.{cond-true}
-use Rattle.sheets.specs.Lists.{all}
+use Rattle.std.specs.List.{list_all}
 use Rattle.sheets.specs.Sheets.{width}
 use Rattle.sheets.specs.Judging.{Judging}
 use Rattle.sheets.specs.Scaling.{Scaling}
@@ -30,7 +30,7 @@ marking_no_seeking e = let z : ◌≡◌ {A = ℕ} 0 1 = cc in omega arith
 settled_no_seeking : settled ≡ seeking → ⊥
 settled_no_seeking e = let z : ◌≡◌ {A = ℕ} 0 1 = cc in omega arith
 
-all_fed : (n : ℕ) (acts : List Act) (c : Call) → n ≤ width → all in_range acts ≡ true → all in_range (fed n acts c) ≡ true
+all_fed : (n : ℕ) (acts : List Act) (c : Call) → n ≤ width → list_all in_range acts ≡ true → list_all in_range (fed n acts c) ≡ true
 all_fed n acts (Pin mark) few low = all_taken n acts (act.Pin mark) few low
 all_fed n acts (Bar mark) few low = all_taken n acts (act.Bar mark) few low
 all_fed n acts (Strike sheet) few low = all_taken n acts (act.Strike sheet) few low
@@ -83,7 +83,7 @@ module _ {C : Type 0} (j : Judging) (s : Scaling C) where
 
   -- the acts name only marks that there are, and a seeking order has gone n steps
   pub record Gone (n : ℕ) (t : State) : Type 0 where
-    pub low : all in_range t.acts ≡ true
+    pub low : list_all in_range t.acts ≡ true
     pub steps : t.stage ≡ seeking → Steps (under j t.acts) s start n t.search
 
   steps_turn : (k : ℕ) (t : State) (c : Call) (r : Answer C) (u : State) → Gone k t → Turn j s t c r u → u.stage ≡ seeking → Steps (under j u.acts) s start (spent_more k c r) u.search
@@ -104,7 +104,7 @@ module _ {C : Type 0} (j : Judging) (s : Scaling C) where
 
   gone_turn : j.count ≤ width → (k : ℕ) (t : State) (c : Call) (r : Answer C) (u : State) → Gone k t → Turn j s t c r u → Gone (spent_more k c r) u
   gone_turn few k t c r u g turn = record {
-    low = ap (all in_range) turn.acts ∙ all_fed j.count t.acts c few g.low;
+    low = ap (list_all in_range) turn.acts ∙ all_fed j.count t.acts c few g.low;
     steps = steps_turn k t c r u g turn;
   }
 

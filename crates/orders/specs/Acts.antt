@@ -1,6 +1,6 @@
 -- Acts, the sheets that keep them, and the judge that is held to them.
 use Rattle.std.specs.Prelude.{◌≡◌, ℕ, Bool, true, false, ◌&&◌, ◌||◌, List, [], ◌∷◌, ◌==◌, nat_lt}
-use Rattle.sheets.specs.Lists.{any}
+use Rattle.std.specs.List.{list_any}
 use Rattle.sheets.specs.Sheets.{width, has, full}
 use Rattle.sheets.specs.Judging.{Judging}
 use Rattle.orders.specs.declared.acts.Act.{Act}
@@ -50,5 +50,5 @@ abbrev pub under : Judging → List Act → Judging
 under j acts = record {
   count = j.count;
   allows = λ z. j.allows z × Keeps acts z;
-  dead = λ p a. j.dead p a || any (breaks p a) acts;
+  dead = λ p a. j.dead p a || list_any (breaks p a) acts;
 }

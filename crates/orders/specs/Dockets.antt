@@ -1,6 +1,6 @@
 -- The docket: which calls on the acts are refused, and the acts that then stand.
 use Rattle.std.specs.Prelude.{ℕ, ◌^◌, Bool, false, cond, not, List, [], ◌∷◌, ◌++◌, length, Some, None, Ok, Err, Option, Result, nat_le, nat_lt}
-use Rattle.sheets.specs.Lists.{any}
+use Rattle.std.specs.List.{list_any}
 use Rattle.orders.specs.declared.acts.Act.{Act}
 use Rattle.orders.specs.declared.acts.Act.TheVariants.{Pin, Bar, Strike}
 use Rattle.orders.specs.declared.acts.Refusal.{Refusal}
@@ -15,15 +15,15 @@ beyond n (Strike sheet) = not (nat_lt sheet (2 ^ n))
 
 -- the mark is already pinned or barred
 abbrev pub mark_taken : List Act → Act → Bool
-mark_taken acts (Pin mark) = any (names mark) acts
-mark_taken acts (Bar mark) = any (names mark) acts
+mark_taken acts (Pin mark) = list_any (names mark) acts
+mark_taken acts (Bar mark) = list_any (names mark) acts
 mark_taken acts (Strike sheet) = false
 
 -- the sheet is already struck
 abbrev pub sheet_struck : List Act → Act → Bool
 sheet_struck acts (Pin mark) = false
 sheet_struck acts (Bar mark) = false
-sheet_struck acts (Strike sheet) = any (strikes sheet) acts
+sheet_struck acts (Strike sheet) = list_any (strikes sheet) acts
 
 -- the refusal applies to a pin, bar or strike, by the count n and the acts that stand
 abbrev pub applies : ℕ → List Act → Act → Refusal → Bool

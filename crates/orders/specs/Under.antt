@@ -2,7 +2,7 @@
 use Rattle.std.specs.Prelude.{◌≡◌, ℕ, true, false, List, [], ◌∷◌, ◌++◌, Some, None, Option, ◌==◌, refl}
 use Rattle.std.proofs.Common.{ap, subst, ◌∙◌, ⊎_elim}
 use Rattle.std.proofs.lemmas.Bool.{both_ways, or_cases, or_parts, and_parts, and_cases, eqb-true, eqb-false, ltb-true}
-use Rattle.sheets.specs.Lists.{any, all}
+use Rattle.std.specs.List.{list_any, list_all}
 use Rattle.sheets.specs.Sheets.{width, has, Part, Within, Full, full}
 use Rattle.sheets.specs.Judging.{Judging, JudgeLaws}
 use Rattle.sheets.specs.Scaling.{Scaling}
@@ -24,12 +24,12 @@ module _ (p a z : ℕ) (part : Part p a) (within : Within p a z) where
       let every : Full p a = (decides_full p a part.present_word part.absent_word).0 both.1 in
       keeps (within_full p a part every z within ∙ eqb-true p y both.0)
 
-  acts_sound : (acts : List Act) → any (breaks p a) acts ≡ true → Keeps acts z → ⊥
+  acts_sound : (acts : List Act) → list_any (breaks p a) acts ≡ true → Keeps acts z → ⊥
   acts_sound [] t keeps = both_ways false refl t
   acts_sound (x ∷ acts) t keeps = ⊎_elim
       (λ b. act_sound x b keeps.0)
       (λ b. acts_sound acts b keeps.1)
-      (or_cases (breaks p a x) (any (breaks p a) acts) t)
+      (or_cases (breaks p a x) (list_any (breaks p a) acts) t)
 
 -- ---- the sheet of a full part-sheet that they do not call dead keeps them
 
@@ -42,19 +42,19 @@ module _ (p a : ℕ) (part : Part p a) (every : Full p a) where
       (λ n. both_ways (full p a) n ((decides_full p a part.present_word part.absent_word).1 every))
       (and_cases (p == y) (full p a) f)
 
-  acts_exact : (acts : List Act) → all in_range acts ≡ true → any (breaks p a) acts ≡ false → Keeps acts p
+  acts_exact : (acts : List Act) → list_all in_range acts ≡ true → list_any (breaks p a) acts ≡ false → Keeps acts p
   acts_exact [] low f = tt
   acts_exact (x ∷ acts) low f =
-      let r = and_parts (in_range x) (all in_range acts) low in
-      let g = or_parts (breaks p a x) (any (breaks p a) acts) f in
+      let r = and_parts (in_range x) (list_all in_range acts) low in
+      let g = or_parts (breaks p a x) (list_any (breaks p a) acts) f in
       (act_exact x r.0 g.0, acts_exact acts r.1 g.1)
 
-module _ (j : Judging) (acts : List Act) (low : all in_range acts ≡ true) (laws : JudgeLaws j) where
+module _ (j : Judging) (acts : List Act) (low : list_all in_range acts ≡ true) (laws : JudgeLaws j) where
   under_sound : (p a z : ℕ) → Part p a → (under j acts).dead p a ≡ true → Within p a z → (under j acts).allows z → ⊥
   under_sound p a z part dead within allowed = ⊎_elim
       (λ d. laws.sound p a z part d within allowed.0)
       (λ b. acts_sound p a z part within acts b allowed.1)
-      (or_cases (j.dead p a) (any (breaks p a) acts) dead)
+      (or_cases (j.dead p a) (list_any (breaks p a) acts) dead)
 
   pub under_laws : JudgeLaws (under j acts)
   under_laws = record {
@@ -64,7 +64,7 @@ module _ (j : Judging) (acts : List Act) (low : all in_range acts ≡ true) (law
     sound = under_sound;
     full_dead = λ p a part every dead. under_sound p a p part dead (within_itself p a part);
     full_allowed = λ p a part every f.
-        let g = or_parts (j.dead p a) (any (breaks p a) acts) f in
+        let g = or_parts (j.dead p a) (list_any (breaks p a) acts) f in
         (laws.full_allowed p a part every g.0, acts_exact p a part every acts low g.1);
   }
 

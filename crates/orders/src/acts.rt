@@ -1,8 +1,9 @@
 // What an order is held to, and why a call is refused.
 ghost use Rattle.std.specs.Prelude.{◌≡◌};
+ghost use Rattle.orders.specs.Acts.{names, strikes, breaks};
 ghost use Rattle.orders.specs.Numbers.{number};
 
-use sheets::{Mark, Sheet};
+use sheets::{Mark, PartSheet, Sheet, has_mark};
 
 // One thing that the sheets of an order keep.
 #[derive(Clone, Copy, Debug, PartialEq, Eq)]
@@ -15,32 +16,53 @@ pub enum Act {
     Strike(Sheet),
 }
 
-// Why a call is refused.
+impl Act {
+    // It pins or bars the mark.
+    pub(crate) fn names(self, mark: Mark) -> bool
+        ensures { result ≡ names mark self }
+    {
+        self == Act::Pin(mark) || self == Act::Bar(mark)
+    }
+
+    // It strikes the sheet.
+    pub(crate) fn strikes(self, sheet: Sheet) -> bool
+        ensures { result ≡ strikes sheet self }
+    {
+        self == Act::Strike(sheet)
+    }
+
+    // The part-sheet has the pinned mark absent or the barred one present, or stands for the struck sheet.
+    pub(crate) fn breaks(self, part: PartSheet) -> bool
+        ensures { result ≡ breaks part.present part.absent self }
+    {
+        match self {
+            Act::Pin(mark) => has_mark(part.absent(), mark),
+            Act::Bar(mark) => has_mark(part.present(), mark),
+            Act::Strike(sheet) => part.present() == sheet && part.is_full(),
+        }
+    }
+}
+
+// Why a call is refused. Each refusal has the number by which it is known.
 #[derive(Clone, Copy, Debug, PartialEq, Eq)]
 pub enum Refusal {
     // A mark is not below the count.
-    MarkRange,
+    MarkRange = 21,
     // The mark is already pinned or barred.
-    MarkTaken,
+    MarkTaken = 22,
     // The sheet is already struck.
-    SheetStruck,
+    SheetStruck = 24,
     // As many acts stand as can.
-    DocketFull,
+    DocketFull = 25,
     // No act stands.
-    DocketEmpty,
+    DocketEmpty = 26,
 }
 
 impl Refusal {
-    // The number by which the refusal is known.
+    // Its number.
     pub fn number(self) -> u8
         ensures { result ≡ number self }
     {
-        match self {
-            Refusal::MarkRange => 21,
-            Refusal::MarkTaken => 22,
-            Refusal::SheetStruck => 24,
-            Refusal::DocketFull => 25,
-            Refusal::DocketEmpty => 26,
-        }
+        self as u8
     }
 }

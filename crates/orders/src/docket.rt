@@ -1,6 +1,6 @@
 // The memory of the acts that stand.
 ghost use Rattle.std.specs.Prelude.{◌≡◌, ◌≤◌, true, length, take};
-ghost use Rattle.sheets.specs.Lists.{all};
+ghost use Rattle.std.specs.List.{list_all};
 ghost use Rattle.orders.specs.Acts.{most_acts, in_range};
 
 use crate::acts::Act;
@@ -15,5 +15,5 @@ pub(crate) struct Docket {
     pub(crate) len: u8,
     ghost room: { length acts ≡ most_acts },
     ghost few: { len ≤ most_acts },
-    ghost ranges: { all in_range (take len acts) ≡ true },
+    ghost ranges: { list_all in_range (take len acts) ≡ true },
 }

@@ -25,15 +25,13 @@ pub fn conduct<J: Judge + Drop, S: Scale + Drop>(
         if log.len() >= log.capacity() {
             return;
         }
-        match turn(order, *call) {
-            None => return,
-            Some((next, answer)) => {
-                order = next;
-                log.push_reserved(Event {
-                    call: *call,
-                    answer,
-                });
-            }
-        }
+        let Some((next, answer)) = turn(order, *call) else {
+            return;
+        };
+        order = next;
+        log.push_reserved(Event {
+            call: *call,
+            answer,
+        });
     }
 }

@@ -5,7 +5,7 @@ ghost use Rattle.orders.specs.Searches.{start, present_at, absent_at};
 use sheets::{PartSheet, Sheet, first_marks};
 
 // The place decides the first `decided` marks, of which those in `present` are present and the others absent.
-#[derive(Clone, Copy)]
+#[derive(Clone, Copy, Debug, PartialEq, Eq)]
 pub struct Search {
     pub(crate) decided: u8,
     pub(crate) present: Sheet,

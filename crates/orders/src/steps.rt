@@ -47,10 +47,7 @@ fn is_too_dear<S: Scale>(scale: &S, held: Option<Sheet>, cost: S::Cost, place: P
     requires { cost ≡ held_cost (S.scaling scale.now) held }
     ensures { result ≡ too_dear (S.scaling scale.now) held ((S.scaling scale.now).floor place.present place.absent) }
 {
-    match held {
-        None => false,
-        Some(_) => !scale.below(scale.floor(place), cost),
-    }
+    held.is_some() && !scale.below(scale.floor(place), cost)
 }
 
 // The judge calls the place dead, or a sheet is held and the floor of the place is not below its cost.
@@ -94,20 +91,14 @@ fn step<J: Judge, S: Scale>(
 fn held_cost<S: Scale>(scale: &S, held: Option<Sheet>) -> S::Cost
     ensures { result ≡ held_cost (S.scaling scale.now) held }
 {
-    match held {
-        None => sheet_cost(scale, 0),
-        Some(sheet) => sheet_cost(scale, sheet),
-    }
+    sheet_cost(scale, held.unwrap_or(0))
 }
 
 // The sheet that is held with its cost, if there is one.
 pub(crate) fn with_cost<S: Scale>(scale: &S, held: Option<Sheet>) -> Option<(Sheet, S::Cost)>
     ensures { result ≡ priced (S.scaling scale.now) held }
 {
-    match held {
-        None => None,
-        Some(sheet) => Some((sheet, sheet_cost(scale, sheet))),
-    }
+    held.map(|sheet| (sheet, sheet_cost(scale, sheet)))
 }
 
 // So many steps, or those that remain if fewer; and how many they were.

@@ -13,12 +13,14 @@ use crate::stage::Order;
 use sheets::{Judge, Scale};
 
 // What a call on the acts returned, as an answer.
-fn to_answer<C>(returned: Result<u8, Refusal>) -> Answer<C>
-    ensures { result ≡ answer_of returned }
-{
-    match returned {
-        Ok(count) => Answer::Stands(count),
-        Err(why) => Answer::Refused(why),
+impl<C> From<Result<u8, Refusal>> for Answer<C> {
+    ghost from_gives = { λ returned answer. answer ≡ answer_of returned };
+
+    fn from(returned: Result<u8, Refusal>) -> Self {
+        match returned {
+            Ok(count) => Answer::Stands(count),
+            Err(why) => Answer::Refused(why),
+        }
     }
 }
 
@@ -31,19 +33,19 @@ fn marking_turn<J: Judge + Drop, S: Scale + Drop>(
     let mut order = marking;
     match call {
         Call::Pin(mark) => {
-            let answer = to_answer(order.pin(mark));
+            let answer = order.pin(mark).into();
             Some((Order::Marking(order), answer))
         }
         Call::Bar(mark) => {
-            let answer = to_answer(order.bar(mark));
+            let answer = order.bar(mark).into();
             Some((Order::Marking(order), answer))
         }
         Call::Strike(sheet) => {
-            let answer = to_answer(order.strike(sheet));
+            let answer = order.strike(sheet).into();
             Some((Order::Marking(order), answer))
         }
         Call::Undo => {
-            let answer = to_answer(order.undo());
+            let answer = order.undo().into();
             Some((Order::Marking(order), answer))
         }
         Call::Seek => Some((Order::Seeking(order.seek()), Answer::Moved)),

@@ -6,7 +6,7 @@ use Rattle.orders.proofs.logs.conduct.Given as goal
 -- the calls so far were answered, and led to the order
 abbrev pub invariant-loop-call : goal.invariant-loop-call
 invariant-loop-call g l =
-    Along (g.J.Judge.judging (judge_of l.initial.order)) (g.S.Scale.scaling (scale_of l.initial.order)) l.calls (vec_items l.initial.log) (vec_items l.log) l.call-index (state_of l.order)
-    × (judge_of l.order ≡ judge_of l.initial.order)
-    × (scale_of l.order ≡ scale_of l.initial.order)
+    Along (g.J.Judge.judging l.fn.judge) (g.S.Scale.scaling l.fn.scale) l.calls (vec_items l.initial.log) (vec_items l.log) l.call-index (state_of l.order)
+    × (judge_of l.order ≡ l.fn.judge)
+    × (scale_of l.order ≡ l.fn.scale)
     × (vec_capacity l.log ≡ vec_capacity l.initial.log)

@@ -1,5 +1,5 @@
 use Rattle.std.proofs.Common.{◌-◌, ◌<◌, ◌≤◌, take, Ok, sym, ap, ◌∙◌, arith}
-use Rattle.sheets.specs.Lists.{all}
+use Rattle.std.specs.List.{list_all}
 use Rattle.orders.specs.Acts.{most_acts, in_range}
 use Rattle.orders.specs.Dockets.{returned}
 use Rattle.orders.specs.Models.{standing}
@@ -11,7 +11,7 @@ invariant_of-self c =
     let old = c.args.self.now in
     let pos : 0 < old.len = omega arith in
     let few : old.len - 1 ≤ most_acts = omega (arith, old.few) in
-    record { room = old.room; few = few; ranges = ap (all in_range) (undone_front old pos) ∙ all_undone (standing old) old.ranges }
+    record { room = old.room; few = few; ranges = ap (list_all in_range) (undone_front old pos) ∙ all_undone (standing old) old.ranges }
 
 pub returns : goal.returns
 returns c =
