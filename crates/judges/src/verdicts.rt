@@ -38,7 +38,7 @@ impl Refusal {
     }
 }
 
-// The lowest number of a rule that does not hold.
+// The lowest number of a rule that does not hold. Labelled loops, and no chain: this form is a rule of the project.
 fn first_broken(rules: &[Rule], sheet: Sheet) -> Option<usize>
     ensures { MatchOption result (Satisfies sheet (map rule_of rules.now)) (FirstBroken (map rule_of rules.now) sheet) }
 {

@@ -19,7 +19,7 @@ fn wish_floor(wish: &Wish, part: PartSheet) -> i16
     }
 }
 
-// The floors of the wishes of a level, added up.
+// The floors of the wishes of a level, added up. A `for`: that the sum of a chain of signed numbers fits gets no proof.
 pub(crate) fn level_floor(file: &RuleFile, level: u8, part: PartSheet) -> i32
     ensures { result ≡ sum_at (wish_floor part.present part.absent) (file_of file.now).wishes level }
 {
