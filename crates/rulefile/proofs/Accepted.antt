@@ -11,8 +11,8 @@ use Rattle.rulefile.specs.declared.refusals.BadFile.{BadFile}
 use Rattle.rulefile.specs.declared.records.Kind.{Kind}
 use Rattle.rulefile.specs.declared.records.Kind.TheVariants.{Head, Rule, Clause, Wish, Act as ActKind}
 use Rattle.rulefile.specs.Model.{WishModel, FileModel}
-use Rattle.rulefile.specs.Parser.{Parse, took, fails, Parser, after, ◌>>=◌, parsed, within, little}
-use Rattle.rulefile.specs.Format.{head_fields, head_body, rule_fields, rule_body, clause_fields, clause_body, wish_fields, wish_body, act_of, act_body, kind_of, adding, head_alone, with_rule, with_clause, with_wish, with_act, first_body, later_body, first, later, whole, bad, or_refused, cut, records, decode}
+use Rattle.rulefile.specs.Parser.{Parse, took, fails, Parser, after, ◌>>=◌, parsed, little}
+use Rattle.rulefile.specs.Format.{head_fields, head_body, rule_fields, rule_body, clause_fields, clause_body, wish_fields, wish_body, act_fields, act_body, kind_of, adding, head_alone, with_rule, with_clause, with_wish, with_act, first_body, later_body, first, later, whole, bad, or_refused, cut, records, decode}
 use Rattle.rulefile.specs.Laws.{RecordBytes, bytes_of, Framed, lengths, bodies_of, Say, LiteralsBelow, RuleBelow, Fits, Accepted}
 use Rattle.rulefile.proofs.Sound.{after_took, wholly_ends, given, gives_rule, gives_clause, gives_wish, gives_head, HeadFits, cut_took}
 
@@ -89,7 +89,7 @@ wish_ends count bs x rest e = wholly_ends (wish_fields count) bs e
 
 act_ends : Ends act_body
 unfolding act_body
-act_ends bs x rest e = wholly_ends (within 1 4 >>= act_of) bs e
+act_ends bs x rest e = wholly_ends act_fields bs e
 
 head_ends : Ends head_body
 unfolding head_body

@@ -16,7 +16,7 @@ use Rattle.rulefile.specs.Answers.{file_of, Reads}
 use Rattle.rulefile.specs.Reading.{Takes, Reading}
 use Rattle.rulefile.specs.Laws.{RecordBytes, bytes_of, Framed, bodies_of, Fits, Accepted}
 use Rattle.rulefile.proofs.Frames.{cut_made}
-use Rattle.rulefile.proofs.Drafts.{adding_made, decode_first, records_more}
+use Rattle.rulefile.proofs.Drafts.{adding_made, whole_cut, decode_first, records_more}
 use Rattle.rulefile.proofs.Accepted.{kind_number, Adds, accepted}
 
 -- ---- a record at the front of the bytes
@@ -206,7 +206,7 @@ records_of (r ∷ rs) n size g f framed a fits le =
     let rest = flat_map bytes_of rs in
     let l = long r framed.0 rest in
     let b = length-append r.body rest in
-    let m = records_more n size g x.file (bytes_of r ++ rest) r.body rest [] (little r.kind) (omega arith) le (cut_front r framed.0 rest) x.says in
+    let m = records_more n size g x.file (bytes_of r ++ rest) rest (omega arith) le (whole_cut (later g) _ r.body rest (little r.kind) (cut_front r framed.0 rest) x.says) in
     m.2 ∙ records_of rs m.0 size x.file f framed.1 x.adds fits (omega (arith, m.1))
 
 -- the first record of a file
@@ -222,9 +222,8 @@ complete bs f a =
     let e = ap length a.sequence in
     let begun : Adds (head_alone (f.count, f.house)) a.later f = record
     { count = refl; house = refl; only = a.only; order = a.order; rules = a.rules; clauses = a.clauses; wishes = a.wishes; acts = a.acts } in
-    decode_first bs a.head.body rest [] (little a.head.kind) (head_alone (f.count, f.house)) a.short
-    (ap cut a.sequence ∙ cut_front a.head a.framed.0 rest)
-    (head_is (little a.head.kind) a.head.body (f.count, f.house) a.first a.says)
+    decode_first bs rest (head_alone (f.count, f.house)) a.short
+    (whole_cut first bs a.head.body rest (little a.head.kind) (ap cut a.sequence ∙ cut_front a.head a.framed.0 rest) (head_is (little a.head.kind) a.head.body (f.count, f.house) a.first a.says))
     ∙ records_of a.later (length bs) (length bs) (head_alone (f.count, f.house)) f a.framed.1 begun a.fits (omega arith)
 
 -- ---- what the reader promises follows from the meaning of its answer
