@@ -57,9 +57,9 @@ module _ (r : RecordBytes) (framed : Framed r) (rest : List ℕ) where
 
 -- what stands behind the first list is the next of the whole
 next_of : {X Y : Type 0} (m : X → Y) (xs zs : List X) (y : Y) (ys : List Y) → map m xs ++ y ∷ ys ≡ map m zs → (x : X) × (y ≡ m x) × (map m (xs ++ x ∷ []) ++ ys ≡ map m zs)
-next_of m [] [] y ys e = let z : ◌≡◌ {A = ℕ} 0 1 = cc in absurd (omega arith)
+next_of m [] [] y ys e = absurd (cc)
 next_of m [] (z ∷ zs) y ys e = (z, (cc), (cc))
-next_of m (x ∷ xs) [] y ys e = let z : ◌≡◌ {A = ℕ} 0 1 = cc in absurd (omega arith)
+next_of m (x ∷ xs) [] y ys e = absurd (cc)
 next_of {Y = Y} m (x ∷ xs) (z ∷ zs) y ys e =
     let rest : map m xs ++ y ∷ ys ≡ map m zs = cc in
     let n = next_of m xs zs y ys rest in
@@ -76,8 +76,8 @@ next_room m xs zs y ys e le =
 -- equal where m is one to one
 same_list : {X Y : Type 0} (m : X → Y) → ((x z : X) → m x ≡ m z → x ≡ z) → (xs zs : List X) → map m xs ++ [] ≡ map m zs → xs ≡ zs
 same_list m one [] [] e = refl
-same_list m one [] (z ∷ zs) e = let x : ◌≡◌ {A = ℕ} 0 1 = cc in absurd (omega arith)
-same_list m one (x ∷ xs) [] e = let z : ◌≡◌ {A = ℕ} 0 1 = cc in absurd (omega arith)
+same_list m one [] (z ∷ zs) e = absurd (cc)
+same_list m one (x ∷ xs) [] e = absurd (cc)
 same_list {X} m one (x ∷ xs) (z ∷ zs) e =
     let top : m x ≡ m z = cc in
     let rest : map m xs ++ [] ≡ map m zs = cc in
@@ -238,5 +238,5 @@ reading bs r e = record { meaning = e; laws = laws r e; complete = λ f a. taken
 
     taken : (r : Result RuleFile ReadError) → Reads (decode bs) r → (f : FileModel) → decode bs ≡ Ok f → Takes f r
     taken (Ok g) e f h = cc
-    taken (Err (Refused b)) e f h = let z : ◌≡◌ {A = ℕ} 0 1 = cc in omega arith
+    taken (Err (Refused b)) e f h = cc
     taken (Err Memory) e f h = tt

@@ -81,7 +81,7 @@ read_fault Memory offset e g = tt
 -- what `map_err` has turned into an error, and what it has left
 pub turned : {X : Type 0} (A : X → Type 0) (B : Fault → Type 0) (L : Fault → ReadError → Type 0) (r : Result X Fault) (s : Result X ReadError) (e : ReadError)
     → s ≡ Err e → MatchResult r A B → MatchResult r (λ x. s ≡ Ok x) (λ f. IsErrAnd s (L f)) → (f : Fault) × B f × L f e
-turned A B L (Ok x) s e is a m = let z : ◌≡◌ {A = ℕ} 0 1 = cc in absurd (omega arith)
+turned A B L (Ok x) s e is a m = absurd (cc)
 turned A B L (Err f) s e is a m = (f, a, subst (λ q. IsErrAnd q (L f)) is m)
 
 pub left : {X : Type 0} (A : X → Type 0) (B : Fault → Type 0) (L : Fault → ReadError → Type 0) (r : Result X Fault) (s : Result X ReadError) (y : X)

@@ -11,7 +11,7 @@ pub fault_on : {A B C : Type 0} {q : Parse C} (f : Fault) (m : B → A) (p : Par
 fault_on f m p rest (Ok x) h e g = absurd h
 fault_on f m p rest (Err Memory) h e g = tt
 fault_on (Bad v) m p rest (Err (Bad w)) h e g = let z : v ≡ w = cc in g w (e ∙ ap fails z)
-fault_on Memory m p rest (Err (Bad w)) h e g = let z : ◌≡◌ {A = ℕ} 0 1 = cc in absurd (omega arith)
+fault_on Memory m p rest (Err (Bad w)) h e g = absurd (cc)
 
 -- xs were read before
 abbrev pub onto : {A : Type 0} → List A → Parse (List A) → Parse (List A)

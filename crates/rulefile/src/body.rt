@@ -10,10 +10,10 @@ ghost use Rattle.rulefile.specs.Format.{literal as literal_spec, element as elem
 ghost use Rattle.rulefile.specs.Answers.{Parses};
 
 use crate::constraints::{Constraint, Element};
-use crate::records::{Act, Clause, Rule};
+use crate::records::{Act, Clause, Head, Rule};
 use crate::refusals::{Fault, Refusal};
 use crate::wishes::Wish;
-use sheets::{Literal, Sheet, WIDTH, within_count};
+use sheets::{Literal, WIDTH, within_count};
 use std::alloc::Global;
 
 // Stands for no high bound.
@@ -22,9 +22,9 @@ const NO_HIGH: u32 = 4_294_967_295;
 // What is left of a body whose marks are below `count`, and the memory for what is read of it.
 #[derive(Drop)]
 pub struct Body<'a> {
-    heap: Global,
-    count: u8,
-    rest: &'a [u8],
+    pub heap: Global,
+    pub count: u8,
+    pub rest: &'a [u8],
 }
 
 // What can be read from the front of a body.
@@ -55,14 +55,14 @@ impl<'a> Body<'a> {
         Ok(*bytes)
     }
 
-    #[tactic(auto, using(crate::proofs::Fields::little_of_1), unfolding(crate::specs::Parser::within, crate::specs::Parser::field))]
     // A one-byte number from `low` to `high`.
+    #[tactic(auto, using(crate::proofs::Fields::little_of_1), unfolding(crate::specs::Parser::within, crate::specs::Parser::field))]
     fn within(&mut self, low: u8, high: u8) -> Result<u8, Refusal>
         ensures parses { within_spec low high self.old.rest.now ≡ parsed result self.new.rest.now }
         ensures kept { self.new.count ≡ self.old.count }
     {
         let [n] = self.bytes::<1>()?;
-        if n < low || n > high {
+        if !(low..=high).contains(&n) {
             return Err(Refusal::OutOfRange);
         }
         Ok(n)
@@ -90,20 +90,15 @@ impl<'a> Body<'a> {
             Err(Refusal::BodyLength)
         }
     }
-}
 
-// What a body says, read to its last byte.
-pub(crate) fn whole<T: Field>(heap: Global, count: u8, body: &[u8]) -> Result<T, Fault>
-    ensures { Parses T.meaning (wholly (T.parser count) body.now) result [] }
-{
-    let mut rest = Body {
-        heap,
-        count,
-        rest: body,
-    };
-    let said = T::read(&mut rest)?;
-    rest.end()?;
-    Ok(said)
+    // What a body says, read to its last byte.
+    pub fn whole<T: Field>(mut self) -> Result<T, Fault>
+        ensures { Parses T.meaning (wholly (T.parser self.entry.count) self.entry.rest.now) result [] }
+    {
+        let said = T::read(&mut self)?;
+        self.end()?;
+        Ok(said)
+    }
 }
 
 // A mark below the count, or "not" such a mark.
@@ -170,13 +165,6 @@ fn high_of(top: u32) -> Option<u32>
     if top == NO_HIGH { None } else { Some(top) }
 }
 
-// The first record: the count of marks, and the house sheet.
-#[derive(Clone, Copy)]
-pub struct Head {
-    pub count: u8,
-    pub house: Sheet,
-}
-
 #[tactic(auto, using(crate::proofs::Fields::little_of_8), unfolding(crate::specs::Format::head_fields, crate::specs::Parser::field))]
 impl Field for Head {
     ghost Meaning = { ℕ × ℕ };
@@ -232,7 +220,7 @@ impl Field for Clause {
 fn weight_fits(weight: i16) -> bool
     ensures { result ≡ is_weight weight }
 {
-    -10_000 <= weight && weight <= 10_000
+    (-10_000..=10_000).contains(&weight)
 }
 
 #[tactic(auto, using(crate::proofs::Fields::little_of_2), unfolding(crate::specs::Format::wish_fields, crate::specs::Parser::field, crate::specs::Format::signed_field))]

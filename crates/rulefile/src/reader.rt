@@ -1,15 +1,15 @@
 // A file, record by record.
 ghost use Rattle.std.specs.Prelude.{◌≡◌, ◌≤◌, ◌<◌, [], length, map, IfOk, MatchResult};
 ghost use Rattle.rulefile.specs.Parser.{took, wholly};
-ghost use Rattle.rulefile.specs.Format.{room_at, first as first_spec, later, whole as whole_spec, decode, file_or_head_alone};
+ghost use Rattle.rulefile.specs.Format.{room_at, head_alone, first as first_spec, later, whole as whole_spec, decode, file_or_head_alone};
 ghost use Rattle.rulefile.specs.Answers.{file_of, draft_of, Parses, Faults, one_more};
 ghost use Rattle.rulefile.specs.Laws.{Fits};
 ghost use Rattle.rulefile.specs.Reading.{Reading};
 
-use crate::body::{Field, Head, whole};
+use crate::body::{Body, Field};
 use crate::files::RuleFile;
 use crate::frame::cut;
-use crate::records::{Act, Clause, Kind, Rule};
+use crate::records::{Act, Clause, Head, Kind, Rule};
 use crate::refusals::{Fault, ReadError, Refusal};
 use crate::wishes::Wish;
 use sheets::Sheet;
@@ -19,9 +19,10 @@ const MOST_BYTES: usize = 32_768;
 
 const MOST_OF_KIND: usize = 256;
 
-// A file that is not yet read to its end, so that nothing is known of the whole.
+// A file that is not yet read to its end. It is no RuleFile, whose limits each `?` on the way would have to prove.
 #[derive(Drop)]
 pub struct Draft {
+    heap: Global,
     count: u8,
     house: Sheet,
     rules: Vec<Rule>,
@@ -43,17 +44,33 @@ fn room(n: usize) -> Result<(), Refusal>
 }
 
 // One more of a kind is read from its body, and put behind those that were read before.
-fn add_to<T: Field>(list: &mut Vec<T>, heap: Global, count: u8, body: &[u8]) -> Result<(), Fault>
-    ensures { Parses (λ _. map T.meaning list.new.items) (one_more (map T.meaning list.old.items) (wholly (T.parser count)) body.now) result [] }
+fn add_to<T: Field>(list: &mut Vec<T>, body: Body<'_>) -> Result<(), Fault>
+    ensures { Parses (λ _. map T.meaning list.new.items) (one_more (map T.meaning list.old.items) (wholly (T.parser body.entry.count)) body.entry.rest.now) result [] }
 {
     room(list.len())?;
-    list.push(whole(heap, count, body)?)?;
+    list.push(body.whole()?)?;
     Ok(())
 }
 
 impl Draft {
-    #[tactic(auto, unfolding(crate::specs::Format::first, crate::specs::Format::first_body, crate::specs::Format::head_body))]
+    // A file with nothing but its head.
+    fn head_alone(heap: Global, head: Head) -> Draft
+        ensures { draft_of result ≡ head_alone (head.count, head.house) }
+    {
+        Draft {
+            heap,
+            count: head.count,
+            house: head.house,
+            rules: Vec::new(heap),
+            clauses: Vec::new(heap),
+            wishes: Vec::new(heap),
+            acts: Vec::new(heap),
+            order: Vec::new(heap),
+        }
+    }
+
     // The file that has read only its head, and the bytes after that.
+    #[tactic(auto, unfolding(crate::specs::Format::first, crate::specs::Format::first_body, crate::specs::Format::head_body))]
     fn begin(heap: Global, bytes: &[u8]) -> Result<(Draft, &[u8]), Fault>
         ensures value { MatchResult result (λ p. whole_spec first_spec bytes.now ≡ took (draft_of p.0) p.1.now) (λ fault. Faults (whole_spec first_spec bytes.now) fault) }
         ensures shorter { IfOk result (λ p. length p.1.now < length bytes.now) }
@@ -63,52 +80,54 @@ impl Draft {
             return Err(Fault::Bad(Refusal::HeadMisplaced));
         };
         // No mark is below the count before it is read.
-        let head: Head = whole(heap, 0, record.body)?;
-        let draft = Draft {
-            count: head.count,
-            house: head.house,
-            rules: Vec::new(heap),
-            clauses: Vec::new(heap),
-            wishes: Vec::new(heap),
-            acts: Vec::new(heap),
-            order: Vec::new(heap),
+        let body = Body {
+            heap,
+            count: 0,
+            rest: record.body,
         };
-        Ok((draft, record.after))
+        Ok((Draft::head_alone(heap, body.whole()?), record.after))
     }
 
-    #[tactic(auto, unfolding(crate::specs::Format::later, crate::specs::Format::later_body, crate::specs::Format::rule_body, crate::specs::Format::clause_body, crate::specs::Format::wish_body, crate::specs::Format::act_body))]
     // What a later record says is added, by its kind.
-    fn add(&mut self, heap: Global, code: u16, body: &[u8]) -> Result<(), Fault>
+    #[tactic(auto, unfolding(crate::specs::Format::later, crate::specs::Format::later_body, crate::specs::Format::rule_body, crate::specs::Format::clause_body, crate::specs::Format::wish_body, crate::specs::Format::act_body))]
+    fn add(&mut self, code: u16, body: &[u8]) -> Result<(), Fault>
         ensures { Parses (λ _. draft_of self.new) (later (draft_of self.old) code body.now) result [] }
     {
         let kind = Kind::try_from(code)?;
+        let body = Body {
+            heap: self.heap,
+            count: self.count,
+            rest: body,
+        };
         match kind {
             Kind::Head => return Err(Fault::Bad(Refusal::HeadMisplaced)),
-            Kind::Rule => add_to(&mut self.rules, heap, self.count, body)?,
-            Kind::Clause => add_to(&mut self.clauses, heap, self.count, body)?,
-            Kind::Wish => add_to(&mut self.wishes, heap, self.count, body)?,
-            Kind::Act => add_to(&mut self.acts, heap, self.count, body)?,
+            Kind::Rule => add_to(&mut self.rules, body)?,
+            Kind::Clause => add_to(&mut self.clauses, body)?,
+            Kind::Wish => add_to(&mut self.wishes, body)?,
+            Kind::Act => add_to(&mut self.acts, body)?,
         }
         self.order.push(kind)?;
         Ok(())
     }
 
     // The record at the front of the bytes is added; the answer is the bytes after it.
-    fn add_first<'a>(&mut self, heap: Global, bytes: &'a [u8]) -> Result<&'a [u8], Fault>
+    fn add_first<'a>(&mut self, bytes: &'a [u8]) -> Result<&'a [u8], Fault>
         ensures value { MatchResult result (λ rest. whole_spec (later (draft_of self.old)) bytes.now ≡ took (draft_of self.new) rest.now) (λ fault. Faults (whole_spec (later (draft_of self.old)) bytes.now) fault) }
         ensures shorter { IfOk result (λ rest. length rest.now < length bytes.now) }
     {
         let record = cut(bytes)?;
-        self.add(heap, record.kind, record.body)?;
+        self.add(record.kind, record.body)?;
         Ok(record.after)
     }
 
     // The file, once it is read to its end.
+    #[tactic(auto, using(crate::proofs::Fits::fit_made))]
     fn finish(self) -> RuleFile
         requires { Fits (draft_of self) }
         ensures { file_of result ≡ draft_of self }
     {
         let Draft {
+            heap: _,
             count,
             house,
             rules,
@@ -140,9 +159,7 @@ pub fn read(heap: Global, bytes: &[u8]) -> Result<RuleFile, ReadError>
     let (mut draft, mut rest) = Draft::begin(heap, bytes).map_err(|fault| fault.located(0))?;
     while !rest.is_empty() {
         let at = size - rest.len();
-        rest = draft
-            .add_first(heap, rest)
-            .map_err(|fault| fault.located(at))?;
+        rest = draft.add_first(rest).map_err(|fault| fault.located(at))?;
     }
     Ok(draft.finish())
 }
@@ -154,14 +171,9 @@ pub fn read_or_head_alone(heap: Global, bytes: &[u8]) -> Result<RuleFile, AllocE
     match read(heap, bytes) {
         Ok(file) => Ok(file),
         Err(ReadError::Memory) => Err(AllocError),
-        Err(ReadError::Refused(_)) => Ok(RuleFile {
-            count: 1,
-            house: 0,
-            rules: Vec::new(heap),
-            clauses: Vec::new(heap),
-            wishes: Vec::new(heap),
-            acts: Vec::new(heap),
-            order: Vec::new(heap),
-        }),
+        Err(ReadError::Refused(_)) => {
+            let head = Head { count: 1, house: 0 };
+            Ok(Draft::head_alone(heap, head).finish())
+        }
     }
 }

@@ -103,7 +103,7 @@ impl fmt::Display for ReadError {
 impl Error for ReadError {}
 
 // Why a part of a file was not read, before the offset is known.
-#[derive(Clone, Copy)]
+#[derive(Clone, Copy, Debug, PartialEq, Eq)]
 pub enum Fault {
     Bad(Refusal),
     Memory,
