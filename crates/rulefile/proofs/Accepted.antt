@@ -11,8 +11,8 @@ use Rattle.rulefile.specs.declared.refusals.BadFile.{BadFile}
 use Rattle.rulefile.specs.declared.records.Kind.{Kind}
 use Rattle.rulefile.specs.declared.records.Kind.TheVariants.{Head, Rule, Clause, Wish, Act as ActKind}
 use Rattle.rulefile.specs.Model.{WishModel, FileModel}
-use Rattle.rulefile.specs.Parser.{Parse, took, fails, Parser, after, ◌>>=◌, parsed, within, little}
-use Rattle.rulefile.specs.Format.{head_fields, head_body, rule_fields, rule_body, clause_fields, clause_body, wish_fields, wish_body, act_of, act_body, kind_of, adding, head_alone, with_rule, with_clause, with_wish, with_act, first_body, later_body, first, later, whole, bad, or_refused, cut, records, decode}
+use Rattle.rulefile.specs.Parser.{Parse, took, fails, Parser, after, ◌>>=◌, parsed, little}
+use Rattle.rulefile.specs.Format.{head_fields, head_body, rule_fields, rule_body, clause_fields, clause_body, wish_fields, wish_body, act_fields, act_body, kind_of, adding, head_alone, with_rule, with_clause, with_wish, with_act, first_body, later_body, first, later, whole, bad, or_refused, cut, records, decode}
 use Rattle.rulefile.specs.Laws.{RecordBytes, bytes_of, Framed, lengths, bodies_of, Say, LiteralsBelow, RuleBelow, Fits, Accepted}
 use Rattle.rulefile.proofs.Sound.{after_took, wholly_ends, given, gives_rule, gives_clause, gives_wish, gives_head, HeadFits, cut_took}
 
@@ -33,7 +33,7 @@ kind_number n k e = go_1 (eqb n 1) refl e
 
     go_5 : (b : Bool) → eqb n 5 ≡ b → cond b (Ok ActKind) (Err UnknownKind) ≡ Ok k → n ≡ number_of k
     go_5 true t e = is 5 ActKind t refl (cc)
-    go_5 false t e = let z : ◌≡◌ {A = ℕ} 0 1 = cc in absurd (omega arith)
+    go_5 false t e = absurd (cc)
 
     go_4 : (b : Bool) → eqb n 4 ≡ b → cond b (Ok Wish) (cond (eqb n 5) (Ok ActKind) (Err UnknownKind)) ≡ Ok k → n ≡ number_of k
     go_4 true t e = is 4 Wish t refl (cc)
@@ -54,7 +54,7 @@ kind_number n k e = go_1 (eqb n 1) refl e
 -- a kind that is known, and a body of it that is read
 kind_took : {g : FileModel} {left : List ℕ} (p : Kind → Parser FileModel) (r : Result Kind Refusal) (bs : List ℕ) → after (parsed r bs) p ≡ took g left → (k : Kind) × (r ≡ Ok k) × (p k bs ≡ took g left)
 kind_took p (Ok k) bs e = (k, refl, e)
-kind_took p (Err why) bs e = let z : ◌≡◌ {A = ℕ} 0 1 = cc in absurd (omega arith)
+kind_took p (Err why) bs e = absurd (cc)
 
 -- one more of a kind, whose body ends with its last field
 record Added {A : Type 0} (n : ℕ) (p : Parser A) (put : A → FileModel) (body : List ℕ) (g : FileModel) : Type 0 where
@@ -73,7 +73,7 @@ adding_took {A} {g} {left} n p put bs ends e = go (ltb n 256) refl e
     go true t e =
         let a = after_took (p bs) _ e in
         record { item = a.0; room = ltb-true n 256 t; says = a.2 ∙ ap (λ rest. took a.0 rest) (ends bs a.0 a.1 a.2); is = (cc) }
-    go false t e = let z : ◌≡◌ {A = ℕ} 0 1 = cc in absurd (omega arith)
+    go false t e = absurd (cc)
 
 rule_ends : (count : ℕ) → Ends (rule_body count)
 unfolding rule_body
@@ -89,7 +89,7 @@ wish_ends count bs x rest e = wholly_ends (wish_fields count) bs e
 
 act_ends : Ends act_body
 unfolding act_body
-act_ends bs x rest e = wholly_ends (within 1 4 >>= act_of) bs e
+act_ends bs x rest e = wholly_ends act_fields bs e
 
 head_ends : Ends head_body
 unfolding head_body
@@ -105,7 +105,7 @@ Later f ActKind body g = Added (length f.acts) act_body (with_act f) body g
 
 later_took : {g : FileModel} {left : List ℕ} (f : FileModel) (k : Kind) (bs : List ℕ) → later_body f k bs ≡ took g left → Later f k bs g
 unfolding later_body
-later_took f Head bs e = let z : ◌≡◌ {A = ℕ} 0 1 = cc in omega arith
+later_took f Head bs e = cc
 later_took f Rule bs e = adding_took _ _ _ bs (rule_ends f.count) e
 later_took f Clause bs e = adding_took _ _ _ bs (clause_ends f.count) e
 later_took f Wish bs e = adding_took _ _ _ bs (wish_ends f.count) e
@@ -263,7 +263,7 @@ later_fits f g ActKind bs h a = subst Fits a.is (record {
 
 or_took : {g : FileModel} (offset : ℕ) (q : Parse FileModel) (go : FileModel → List ℕ → Result FileModel BadFile) → or_refused offset q go ≡ Ok g → (f : FileModel) × (rest : List ℕ) × (q ≡ took f rest) × (go f rest ≡ Ok g)
 or_took offset (took f rest) go e = (f, rest, refl, e)
-or_took offset (fails why) go e = let z : ◌≡◌ {A = ℕ} 0 1 = cc in absurd (omega arith)
+or_took offset (fails why) go e = absurd (cc)
 
 -- a record with the bytes after it, and what its body says
 record Whole (p : Kind → Parser FileModel) (bs rest : List ℕ) (g : FileModel) : Type 0 where
@@ -302,7 +302,7 @@ record Split (f : FileModel) (bs : List ℕ) (g : FileModel) : Type 0 where
 records_split : (n size : ℕ) (f g : FileModel) (bs : List ℕ) → Fits f → records n size f bs ≡ Ok g → Split f bs g
 unfolding records later
 records_split n size f g [] h e = let s : f ≡ g = cc in subst (λ q. Split f [] q) s (record { parts = []; sequence = refl; framed = tt; adds = adds_none f; fits = h })
-records_split zero size f g (b ∷ bs) h e = let z : ◌≡◌ {A = ℕ} 0 1 = cc in absurd (omega arith)
+records_split zero size f g (b ∷ bs) h e = absurd (cc)
 records_split (suc n) size f g (b ∷ bs) h e =
     let o = or_took (size - length (b ∷ bs)) (whole (later f) (b ∷ bs)) _ e in
     let w = whole_took (later_body f) (b ∷ bs) o.2 in
@@ -330,10 +330,10 @@ adds_up (r ∷ rs) h =
 first_took : {g : FileModel} {left : List ℕ} (k : Kind) (bs : List ℕ) → first_body k bs ≡ took g left → (k ≡ Head) × (h : ℕ × ℕ) × (head_body bs ≡ took h []) × (head_alone h ≡ g)
 unfolding first_body
 first_took Head bs e = let a = after_took (head_body bs) _ e in (refl, a.0, a.2 ∙ ap (λ rest. took a.0 rest) (head_ends bs a.0 a.1 a.2), (cc))
-first_took Rule bs e = let z : ◌≡◌ {A = ℕ} 0 1 = cc in absurd (omega arith)
-first_took Clause bs e = let z : ◌≡◌ {A = ℕ} 0 1 = cc in absurd (omega arith)
-first_took Wish bs e = let z : ◌≡◌ {A = ℕ} 0 1 = cc in absurd (omega arith)
-first_took ActKind bs e = let z : ◌≡◌ {A = ℕ} 0 1 = cc in absurd (omega arith)
+first_took Rule bs e = absurd (cc)
+first_took Clause bs e = absurd (cc)
+first_took Wish bs e = absurd (cc)
+first_took ActKind bs e = absurd (cc)
 
 head_fits : (h : ℕ × ℕ) (bs : List ℕ) → head_body bs ≡ took h [] → Fits (head_alone h)
 head_fits h bs e =
@@ -369,7 +369,7 @@ unfolding decode first
 accepted bs f e = go (ltb 32768 (length bs)) refl e
   where
     go : (b : Bool) → ltb 32768 (length bs) ≡ b → cond b (bad FileTooLong 0) (or_refused 0 (whole first bs) (records (length bs) (length bs))) ≡ Ok f → Accepted bs f
-    go true t e = let z : ◌≡◌ {A = ℕ} 0 1 = cc in absurd (omega arith)
+    go true t e = absurd (cc)
     go false t e =
         let o = or_took 0 (whole first bs) _ e in
         let w = whole_took first_body bs o.2 in

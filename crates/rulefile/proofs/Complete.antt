@@ -16,7 +16,7 @@ use Rattle.rulefile.specs.Answers.{file_of, Reads}
 use Rattle.rulefile.specs.Reading.{Takes, Reading}
 use Rattle.rulefile.specs.Laws.{RecordBytes, bytes_of, Framed, bodies_of, Fits, Accepted}
 use Rattle.rulefile.proofs.Frames.{cut_made}
-use Rattle.rulefile.proofs.Drafts.{adding_made, decode_first, records_more}
+use Rattle.rulefile.proofs.Drafts.{adding_made, whole_cut, decode_first, records_more}
 use Rattle.rulefile.proofs.Accepted.{kind_number, Adds, accepted}
 
 -- ---- a record at the front of the bytes
@@ -57,9 +57,9 @@ module _ (r : RecordBytes) (framed : Framed r) (rest : List ℕ) where
 
 -- what stands behind the first list is the next of the whole
 next_of : {X Y : Type 0} (m : X → Y) (xs zs : List X) (y : Y) (ys : List Y) → map m xs ++ y ∷ ys ≡ map m zs → (x : X) × (y ≡ m x) × (map m (xs ++ x ∷ []) ++ ys ≡ map m zs)
-next_of m [] [] y ys e = let z : ◌≡◌ {A = ℕ} 0 1 = cc in absurd (omega arith)
+next_of m [] [] y ys e = absurd (cc)
 next_of m [] (z ∷ zs) y ys e = (z, (cc), (cc))
-next_of m (x ∷ xs) [] y ys e = let z : ◌≡◌ {A = ℕ} 0 1 = cc in absurd (omega arith)
+next_of m (x ∷ xs) [] y ys e = absurd (cc)
 next_of {Y = Y} m (x ∷ xs) (z ∷ zs) y ys e =
     let rest : map m xs ++ y ∷ ys ≡ map m zs = cc in
     let n = next_of m xs zs y ys rest in
@@ -76,8 +76,8 @@ next_room m xs zs y ys e le =
 -- equal where m is one to one
 same_list : {X Y : Type 0} (m : X → Y) → ((x z : X) → m x ≡ m z → x ≡ z) → (xs zs : List X) → map m xs ++ [] ≡ map m zs → xs ≡ zs
 same_list m one [] [] e = refl
-same_list m one [] (z ∷ zs) e = let x : ◌≡◌ {A = ℕ} 0 1 = cc in absurd (omega arith)
-same_list m one (x ∷ xs) [] e = let z : ◌≡◌ {A = ℕ} 0 1 = cc in absurd (omega arith)
+same_list m one [] (z ∷ zs) e = absurd (cc)
+same_list m one (x ∷ xs) [] e = absurd (cc)
 same_list {X} m one (x ∷ xs) (z ∷ zs) e =
     let top : m x ≡ m z = cc in
     let rest : map m xs ++ [] ≡ map m zs = cc in
@@ -206,7 +206,7 @@ records_of (r ∷ rs) n size g f framed a fits le =
     let rest = flat_map bytes_of rs in
     let l = long r framed.0 rest in
     let b = length-append r.body rest in
-    let m = records_more n size g x.file (bytes_of r ++ rest) r.body rest [] (little r.kind) (omega arith) le (cut_front r framed.0 rest) x.says in
+    let m = records_more n size g x.file (bytes_of r ++ rest) rest (omega arith) le (whole_cut (later g) _ r.body rest (little r.kind) (cut_front r framed.0 rest) x.says) in
     m.2 ∙ records_of rs m.0 size x.file f framed.1 x.adds fits (omega (arith, m.1))
 
 -- the first record of a file
@@ -222,9 +222,8 @@ complete bs f a =
     let e = ap length a.sequence in
     let begun : Adds (head_alone (f.count, f.house)) a.later f = record
     { count = refl; house = refl; only = a.only; order = a.order; rules = a.rules; clauses = a.clauses; wishes = a.wishes; acts = a.acts } in
-    decode_first bs a.head.body rest [] (little a.head.kind) (head_alone (f.count, f.house)) a.short
-    (ap cut a.sequence ∙ cut_front a.head a.framed.0 rest)
-    (head_is (little a.head.kind) a.head.body (f.count, f.house) a.first a.says)
+    decode_first bs rest (head_alone (f.count, f.house)) a.short
+    (whole_cut first bs a.head.body rest (little a.head.kind) (ap cut a.sequence ∙ cut_front a.head a.framed.0 rest) (head_is (little a.head.kind) a.head.body (f.count, f.house) a.first a.says))
     ∙ records_of a.later (length bs) (length bs) (head_alone (f.count, f.house)) f a.framed.1 begun a.fits (omega arith)
 
 -- ---- what the reader promises follows from the meaning of its answer
@@ -239,5 +238,5 @@ reading bs r e = record { meaning = e; laws = laws r e; complete = λ f a. taken
 
     taken : (r : Result RuleFile ReadError) → Reads (decode bs) r → (f : FileModel) → decode bs ≡ Ok f → Takes f r
     taken (Ok g) e f h = cc
-    taken (Err (Refused b)) e f h = let z : ◌≡◌ {A = ℕ} 0 1 = cc in omega arith
+    taken (Err (Refused b)) e f h = cc
     taken (Err Memory) e f h = tt

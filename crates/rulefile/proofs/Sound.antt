@@ -19,18 +19,18 @@ use Rattle.rulefile.specs.Laws.{RecordBytes, bytes_of, Framed, LiteralsBelow, Co
 -- both parts have succeeded
 pub after_took : {A B : Type 0} {y : B} {rest : List ℕ} (q : Parse A) (f : A → Parser B) → after q f ≡ took y rest → (x : A) × (mid : List ℕ) × (q ≡ took x mid) × (f x mid ≡ took y rest)
 after_took (took x mid) f e = (x, mid, refl, e)
-after_took (fails why) f e = let z : ◌≡◌ {A = ℕ} 0 1 = cc in absurd (omega arith)
+after_took (fails why) f e = absurd (cc)
 
 pub check_took : {u : Unit {0}} {rest : List ℕ} (b : Bool) (why : Refusal) (bs : List ℕ) → check b why bs ≡ took u rest → (b ≡ true) × (bs ≡ rest)
 check_took true why bs e = (refl, (cc))
-check_took false why bs e = let z : ◌≡◌ {A = ℕ} 0 1 = cc in absurd (omega arith)
+check_took false why bs e = absurd (cc)
 
 pub bytes_took : {xs rest : List ℕ} (n : ℕ) (why : Refusal) (bs : List ℕ) → bytes n why bs ≡ took xs rest → (n ≤ length bs) × (xs ≡ take n bs) × (rest ≡ drop n bs)
 bytes_took {xs} {rest} n why bs e = go (leb n (length bs)) refl e
   where
     go : (b : Bool) → leb n (length bs) ≡ b → cond b (took (take n bs) (drop n bs)) (fails why) ≡ took xs rest → (n ≤ length bs) × (xs ≡ take n bs) × (rest ≡ drop n bs)
     go true t e = (leb-true n (length bs) t, (cc), (cc))
-    go false t e = let z : ◌≡◌ {A = ℕ} 0 1 = cc in absurd (omega arith)
+    go false t e = absurd (cc)
 
 took_value : {A : Type 0} {x y : A} {m n : List ℕ} → took x m ≡ took y n → x ≡ y
 took_value e = cc
@@ -47,7 +47,7 @@ wholly_ends p bs e =
   where
     ends : {u : Unit {0}} (bs mid : List ℕ) → end bs ≡ took u mid → mid ≡ []
     ends [] mid e = cc
-    ends (b ∷ bs) mid e = let z : ◌≡◌ {A = ℕ} 0 1 = cc in absurd (omega arith)
+    ends (b ∷ bs) mid e = absurd (cc)
 
 -- ---- what holds of whatever a parser takes
 

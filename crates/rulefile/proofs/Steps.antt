@@ -3,26 +3,15 @@ use Rattle.std.proofs.Common.{◌≡◌, ℕ, suc, ◌+◌, ◌-◌, ◌<◌, �
 use Rattle.rulefile.specs.declared.refusals.Refusal.{Refusal}
 use Rattle.rulefile.specs.declared.refusals.Fault.{Fault}
 use Rattle.rulefile.specs.declared.refusals.Fault.TheVariants.{Bad, Memory}
-use Rattle.rulefile.specs.Parser.{Parse, took, fails, Parser, after, times, parsed}
+use Rattle.rulefile.specs.Parser.{Parse, took, fails, Parser, after, times}
 use Rattle.rulefile.specs.Answers.{Faults, Parses}
-
--- the refusal goes out as it came
-pub passed_on : {A : Type 0} {why : Refusal} {p : Parse A} (rest : List ℕ) (r : Result A Refusal) → IsErrAnd r (λ e. e ≡ why) → p ≡ fails why → p ≡ parsed r rest
-passed_on rest (Ok x) h e = absurd h
-passed_on rest (Err y) h e = e ∙ ap fails (sym h)
-
--- a refusal becomes a fault
-pub refused_on : {A B : Type 0} {why : Refusal} (m : B → A) (p : Parse A) (rest : List ℕ) (r : Result B Fault) → IsErrAnd r (λ e. e ≡ Bad why) → p ≡ fails why → Parses m p r rest
-refused_on m p rest (Ok x) h e = absurd h
-refused_on m p rest (Err (Bad w)) h e = e ∙ ap fails (let z : w ≡ _ = cc in sym z)
-refused_on m p rest (Err Memory) h e = tt
 
 -- a fault goes out as it came: where the part refuses, so does the whole
 pub fault_on : {A B C : Type 0} {q : Parse C} (f : Fault) (m : B → A) (p : Parse A) (rest : List ℕ) (r : Result B Fault) → IsErrAnd r (λ e. e ≡ f) → Faults q f → ((why : Refusal) → q ≡ fails why → p ≡ fails why) → Parses m p r rest
 fault_on f m p rest (Ok x) h e g = absurd h
 fault_on f m p rest (Err Memory) h e g = tt
 fault_on (Bad v) m p rest (Err (Bad w)) h e g = let z : v ≡ w = cc in g w (e ∙ ap fails z)
-fault_on Memory m p rest (Err (Bad w)) h e g = let z : ◌≡◌ {A = ℕ} 0 1 = cc in absurd (omega arith)
+fault_on Memory m p rest (Err (Bad w)) h e g = absurd (cc)
 
 -- xs were read before
 abbrev pub onto : {A : Type 0} → List A → Parse (List A) → Parse (List A)

@@ -1,5 +1,5 @@
 -- How the answers of the program's functions stand for those of the parsers.
-use Rattle.std.specs.Prelude.{◌≡◌, ℕ, ◌<◌, List, [], length, Ok, Err, vec_items, Result}
+use Rattle.std.specs.Prelude.{◌≡◌, ℕ, ◌<◌, List, [], ◌∷◌, ◌++◌, length, Ok, Err, vec_items, Result}
 use Rattle.rulefile.specs.declared.refusals.Refusal.{Refusal}
 use Rattle.rulefile.specs.declared.refusals.Fault.{Fault}
 use Rattle.rulefile.specs.declared.refusals.Fault.TheVariants.{Bad, Memory}
@@ -10,7 +10,8 @@ use Rattle.rulefile.specs.declared.files.RuleFile.{RuleFile}
 use Rattle.rulefile.specs.declared.frame.Record.{Record}
 use Rattle.rulefile.specs.declared.reader.Draft.{Draft}
 use Rattle.rulefile.specs.Model.{FileModel, model_of}
-use Rattle.rulefile.specs.Parser.{Parse, took, fails}
+use Rattle.rulefile.specs.Parser.{Parse, took, fails, Parser, ◌>>=◌, ◌>>◌, pure, parsed}
+use Rattle.rulefile.specs.Format.{room_at}
 
 -- what a read file holds
 abbrev pub file_of : RuleFile → FileModel
@@ -35,10 +36,12 @@ abbrev pub parsed_record : Result Record Refusal → Parse (ℕ × List ℕ)
 parsed_record (Ok r) = took (r.kind, r.body.now) r.after.now
 parsed_record (Err why) = fails why
 
--- a draft, whose record's body is read to its end
-abbrev pub parsed_draft : Result Draft Refusal → Parse FileModel
-parsed_draft (Ok f) = took (draft_of f) []
-parsed_draft (Err why) = fails why
+-- one more is read by p, and put behind xs
+abbrev pub one_more : {A : Type 0} → List A → Parser A → Parser (List A)
+one_more xs p = do
+  parsed (room_at (length xs))
+  x ← p
+  pure (xs ++ x ∷ [])
 
 -- the bytes after a record are fewer than n
 abbrev pub Shorter : ℕ → Result Record Refusal → Type 0

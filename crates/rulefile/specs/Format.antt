@@ -109,8 +109,11 @@ act_of code =
     (pure Undo)))
 
 -- kind 5: the code, and its mark or sheet
+unfoldable pub act_fields : Parser Act
+act_fields = within 1 4 >>= act_of
+
 unfoldable pub act_body : Parser Act
-act_body = wholly (within 1 4 >>= act_of)
+act_body = wholly act_fields
 
 -- ---- records
 

@@ -1,175 +1,87 @@
 // The fields of a record's body, read one after another.
-ghost use Rattle.std.specs.Prelude.{◌≡◌, ◌&&◌, [], map, vec_items};
+ghost use Rattle.std.specs.Prelude.{◌≡◌, ℕ, List, [], map, vec_items};
+ghost use Rattle.sheets.specs.declared.literals.Literal.{Literal};
 ghost use Rattle.rulefile.specs.Ranges.{is_weight};
-ghost use Rattle.rulefile.specs.Model.{constraint_of, rule_of, clause_of, wish_of};
-ghost use Rattle.rulefile.specs.Parser.{field, within as within_spec, times, end as end_spec, parsed};
-ghost use Rattle.rulefile.specs.Format.{literal as literal_spec, element as element_spec, constraint as constraint_spec, high_of, act_of, signed_field, sheet_field, head_body, rule_body, clause_body, wish_body, act_body};
+ghost use Rattle.rulefile.specs.declared.constraints.Element.{Element};
+ghost use Rattle.rulefile.specs.declared.records.Act.{Act};
+ghost use Rattle.rulefile.specs.Model.{ConstraintModel, RuleModel, WishModel, constraint_of, rule_of, clause_of, wish_of};
+ghost use Rattle.rulefile.specs.Parser.{Parser, bytes as bytes_spec, within as within_spec, times, end as end_spec, wholly, parsed};
+ghost use Rattle.rulefile.specs.Format.{literal as literal_spec, element as element_spec, constraint as constraint_spec, high_of, act_fields, head_fields, rule_fields, clause_fields, wish_fields};
 ghost use Rattle.rulefile.specs.Answers.{Parses};
 
 use crate::constraints::{Constraint, Element};
-use crate::records::{Act, Clause, Rule};
+use crate::records::{Act, Clause, Head, Rule};
 use crate::refusals::{Fault, Refusal};
 use crate::wishes::Wish;
-use sheets::{Literal, Sheet, WIDTH, within_count};
+use sheets::{Literal, WIDTH, within_count};
 use std::alloc::Global;
 
 // Stands for no high bound.
 const NO_HIGH: u32 = 4_294_967_295;
 
-// What is left of a body.
+// What is left of a body whose marks are below `count`, and the memory for what is read of it.
 #[derive(Drop)]
 pub struct Body<'a> {
-    rest: &'a [u8],
+    pub heap: Global,
+    pub count: u8,
+    pub rest: &'a [u8],
+}
+
+// What can be read from the front of a body.
+pub trait Field: Drop + Sized {
+    // What a value says, without the memory that it takes.
+    ghost Meaning: { Type 0 };
+
+    ghost meaning: { Self → Meaning };
+
+    // How the bytes are read where the marks are below a count.
+    ghost parser: { ℕ → Parser Meaning };
+
+    fn read(body: &mut Body<'_>) -> Result<Self, Fault>
+        ensures parses { Parses meaning (parser body.old.count body.old.rest.now) result body.new.rest.now }
+        ensures kept { body.new.count ≡ body.old.count };
 }
 
 impl<'a> Body<'a> {
-    pub(crate) fn byte(&mut self) -> Result<u8, Refusal>
-        ensures { field 1 self.old.rest.now ≡ parsed result self.new.rest.now }
+    // The next `N` bytes.
+    fn bytes<const N: usize>(&mut self) -> Result<[u8; N], Refusal>
+        ensures parses { bytes_spec N Refusal.BodyLength self.old.rest.now ≡ parsed result self.new.rest.now }
+        ensures kept { self.new.count ≡ self.old.count }
     {
-        let [a, rest @ ..] = self.rest else {
+        let Some((bytes, rest)) = self.rest.split_first_chunk() else {
             return Err(Refusal::BodyLength);
         };
         self.rest = rest;
-        Ok(*a)
-    }
-
-    pub(crate) fn two_bytes(&mut self) -> Result<u16, Refusal>
-        ensures { field 2 self.old.rest.now ≡ parsed result self.new.rest.now }
-    {
-        let [a, b, rest @ ..] = self.rest else {
-            return Err(Refusal::BodyLength);
-        };
-        self.rest = rest;
-        Ok(u16::from_le_bytes([*a, *b]))
-    }
-
-    pub(crate) fn signed(&mut self) -> Result<i16, Refusal>
-        ensures { signed_field self.old.rest.now ≡ parsed result self.new.rest.now }
-    {
-        let [a, b, rest @ ..] = self.rest else {
-            return Err(Refusal::BodyLength);
-        };
-        self.rest = rest;
-        Ok(i16::from_le_bytes([*a, *b]))
-    }
-
-    pub(crate) fn four_bytes(&mut self) -> Result<u32, Refusal>
-        ensures { field 4 self.old.rest.now ≡ parsed result self.new.rest.now }
-    {
-        let [a, b, c, d, rest @ ..] = self.rest else {
-            return Err(Refusal::BodyLength);
-        };
-        self.rest = rest;
-        Ok(u32::from_le_bytes([*a, *b, *c, *d]))
-    }
-
-    pub(crate) fn sheet(&mut self) -> Result<Sheet, Refusal>
-        ensures { sheet_field self.old.rest.now ≡ parsed result self.new.rest.now }
-    {
-        let [a, b, c, d, e, f, g, h, rest @ ..] = self.rest else {
-            return Err(Refusal::BodyLength);
-        };
-        self.rest = rest;
-        Ok(u64::from_le_bytes([*a, *b, *c, *d, *e, *f, *g, *h]))
+        Ok(*bytes)
     }
 
     // A one-byte number from `low` to `high`.
-    pub(crate) fn within(&mut self, low: u8, high: u8) -> Result<u8, Refusal>
-        ensures { within_spec low high self.old.rest.now ≡ parsed result self.new.rest.now }
+    #[tactic(auto, using(crate::proofs::Fields::little_of_1), unfolding(crate::specs::Parser::within, crate::specs::Parser::field))]
+    fn within(&mut self, low: u8, high: u8) -> Result<u8, Refusal>
+        ensures parses { within_spec low high self.old.rest.now ≡ parsed result self.new.rest.now }
+        ensures kept { self.new.count ≡ self.old.count }
     {
-        let n = self.byte()?;
-        if n < low || n > high {
+        let [n] = self.bytes::<1>()?;
+        if !(low..=high).contains(&n) {
             return Err(Refusal::OutOfRange);
         }
         Ok(n)
     }
 
-    // A mark below the count, or "not" such a mark.
-    pub(crate) fn literal(&mut self, count: u8) -> Result<Literal, Refusal>
-        ensures { literal_spec count self.old.rest.now ≡ parsed result self.new.rest.now }
+    // `n` fields, one after another.
+    fn several<T: Field>(&mut self, n: u8) -> Result<Vec<T>, Fault>
+        ensures parses { Parses (λ v. map T.meaning (vec_items v)) (times n (T.parser self.old.count) self.old.rest.now) result self.new.rest.now }
+        ensures kept { self.new.count ≡ self.old.count }
     {
-        let b = self.byte()?;
-        let mark = b % 128;
-        if mark >= count {
-            return Err(Refusal::MarkRange);
-        }
-        Ok(Literal {
-            mark,
-            negated: b >= 128,
-        })
-    }
-
-    pub(crate) fn element(&mut self, count: u8) -> Result<Element, Refusal>
-        ensures { element_spec count self.old.rest.now ≡ parsed result self.new.rest.now }
-    {
-        let literal = self.literal(count)?;
-        let weight = self.two_bytes()?;
-        Ok(Element { literal, weight })
-    }
-
-    pub(crate) fn literals(&mut self, heap: Global, count: u8, n: u8) -> Result<Vec<Literal>, Fault>
-        ensures { Parses vec_items (times n (literal_spec count) self.old.rest.now) result self.new.rest.now }
-    {
-        let mut all = Vec::new(heap);
+        let mut all = Vec::new(self.heap);
         for _i in 0..n {
-            all.push(self.literal(count)?)?;
+            all.push(T::read(self)?)?;
         }
         Ok(all)
-    }
-
-    pub(crate) fn elements(&mut self, heap: Global, count: u8, n: u8) -> Result<Vec<Element>, Fault>
-        ensures { Parses vec_items (times n (element_spec count) self.old.rest.now) result self.new.rest.now }
-    {
-        let mut all = Vec::new(heap);
-        for _i in 0..n {
-            all.push(self.element(count)?)?;
-        }
-        Ok(all)
-    }
-
-    pub(crate) fn constraint(&mut self, heap: Global, count: u8) -> Result<Constraint, Fault>
-        ensures { Parses constraint_of (constraint_spec count self.old.rest.now) result self.new.rest.now }
-    {
-        let low = self.four_bytes()?;
-        let top = self.four_bytes()?;
-        let n = self.within(0, 32)?;
-        let elements = self.elements(heap, count, n)?;
-        Ok(Constraint {
-            low,
-            high: high_of(top),
-            elements,
-        })
-    }
-
-    pub(crate) fn constraints(
-        &mut self,
-        heap: Global,
-        count: u8,
-        n: u8,
-    ) -> Result<Vec<Constraint>, Fault>
-        ensures { Parses (λ v. map constraint_of v.items) (times n (constraint_spec count) self.old.rest.now) result self.new.rest.now }
-    {
-        let mut all = Vec::new(heap);
-        for _i in 0..n {
-            all.push(self.constraint(heap, count)?)?;
-        }
-        Ok(all)
-    }
-
-    // The act of a code from 1 to 4.
-    pub(crate) fn act_of(&mut self, code: u8) -> Result<Act, Refusal>
-        ensures { act_of code self.old.rest.now ≡ parsed result self.new.rest.now }
-    {
-        match code {
-            1 => Ok(Act::Pin(self.byte()?)),
-            2 => Ok(Act::Bar(self.byte()?)),
-            3 => Ok(Act::Strike(self.sheet()?)),
-            _ => Ok(Act::Undo),
-        }
     }
 
     // Nothing is left.
-    pub(crate) fn end(&self) -> Result<(), Refusal>
+    fn end(&self) -> Result<(), Refusal>
         ensures { end_spec self.now.rest.now ≡ parsed result [] }
     {
         if self.rest.is_empty() {
@@ -177,6 +89,73 @@ impl<'a> Body<'a> {
         } else {
             Err(Refusal::BodyLength)
         }
+    }
+
+    // What a body says, read to its last byte.
+    pub fn whole<T: Field>(mut self) -> Result<T, Fault>
+        ensures { Parses T.meaning (wholly (T.parser self.entry.count) self.entry.rest.now) result [] }
+    {
+        let said = T::read(&mut self)?;
+        self.end()?;
+        Ok(said)
+    }
+}
+
+// A mark below the count, or "not" such a mark.
+#[tactic(auto, using(crate::proofs::Fields::little_of_1), unfolding(crate::specs::Format::literal, crate::specs::Parser::field))]
+impl Field for Literal {
+    ghost Meaning = { Literal };
+
+    ghost meaning = { λ l. l };
+
+    ghost parser = { literal_spec };
+
+    fn read(body: &mut Body<'_>) -> Result<Literal, Fault> {
+        let [b] = body.bytes::<1>()?;
+        let mark = b % 128;
+        if mark >= body.count {
+            return Err(Fault::Bad(Refusal::MarkRange));
+        }
+        Ok(Literal {
+            mark,
+            negated: b >= 128,
+        })
+    }
+}
+
+#[tactic(auto, using(crate::proofs::Fields::little_of_2), unfolding(crate::specs::Format::element, crate::specs::Parser::field))]
+impl Field for Element {
+    ghost Meaning = { Element };
+
+    ghost meaning = { λ e. e };
+
+    ghost parser = { element_spec };
+
+    fn read(body: &mut Body<'_>) -> Result<Element, Fault> {
+        let literal = Literal::read(body)?;
+        let weight = u16::from_le_bytes(body.bytes()?);
+        Ok(Element { literal, weight })
+    }
+}
+
+#[tactic(auto, using(crate::proofs::Fields::little_of_4), unfolding(crate::specs::Format::constraint, crate::specs::Parser::field))]
+impl Field for Constraint {
+    ghost Meaning = { ConstraintModel };
+
+    ghost meaning = { constraint_of };
+
+    ghost parser = { constraint_spec };
+
+    fn read(body: &mut Body<'_>) -> Result<Constraint, Fault> {
+        let low = u32::from_le_bytes(body.bytes()?);
+        let top = u32::from_le_bytes(body.bytes()?);
+        let n = body.within(0, 32)?;
+        let elements = body.several(n)?;
+        Ok(Constraint {
+            low,
+            high: high_of(top),
+            elements,
+        })
     }
 }
 
@@ -186,72 +165,109 @@ fn high_of(top: u32) -> Option<u32>
     if top == NO_HIGH { None } else { Some(top) }
 }
 
+#[tactic(auto, using(crate::proofs::Fields::little_of_8), unfolding(crate::specs::Format::head_fields, crate::specs::Parser::field))]
+impl Field for Head {
+    ghost Meaning = { ℕ × ℕ };
+
+    ghost meaning = { λ h. (h.count, h.house) };
+
+    ghost parser = { λ _. head_fields };
+
+    fn read(body: &mut Body<'_>) -> Result<Head, Fault> {
+        let count = body.within(1, WIDTH)?;
+        let house = u64::from_le_bytes(body.bytes()?);
+        if !within_count(house, count) {
+            return Err(Fault::Bad(Refusal::MarkRange));
+        }
+        Ok(Head { count, house })
+    }
+}
+
+#[tactic(auto, unfolding(crate::specs::Format::rule_fields, crate::specs::Parser::field))]
+impl Field for Rule {
+    ghost Meaning = { RuleModel };
+
+    ghost meaning = { rule_of };
+
+    ghost parser = { rule_fields };
+
+    fn read(body: &mut Body<'_>) -> Result<Rule, Fault> {
+        let n = body.within(0, 8)?;
+        let head = Constraint::read(body)?;
+        let constraints = body.several(n)?;
+        Ok(Rule {
+            head,
+            body: constraints,
+        })
+    }
+}
+
+#[tactic(auto, unfolding(crate::specs::Format::clause_fields, crate::specs::Parser::field))]
+impl Field for Clause {
+    ghost Meaning = { List Literal };
+
+    ghost meaning = { clause_of };
+
+    ghost parser = { clause_fields };
+
+    fn read(body: &mut Body<'_>) -> Result<Clause, Fault> {
+        let n = body.within(0, 32)?;
+        let literals = body.several(n)?;
+        Ok(Clause { literals })
+    }
+}
+
 fn weight_fits(weight: i16) -> bool
     ensures { result ≡ is_weight weight }
 {
-    -10_000 <= weight && weight <= 10_000
+    (-10_000..=10_000).contains(&weight)
 }
 
-// Count and house sheet.
-pub(crate) fn head(body: &[u8]) -> Result<(u8, Sheet), Refusal>
-    ensures { head_body body.now ≡ parsed result [] }
-{
-    let mut b = Body { rest: body };
-    let count = b.within(1, WIDTH)?;
-    let house = b.sheet()?;
-    if !within_count(house, count) {
-        return Err(Refusal::MarkRange);
+#[tactic(auto, using(crate::proofs::Fields::little_of_2), unfolding(crate::specs::Format::wish_fields, crate::specs::Parser::field, crate::specs::Format::signed_field))]
+impl Field for Wish {
+    ghost Meaning = { WishModel };
+
+    ghost meaning = { wish_of };
+
+    ghost parser = { wish_fields };
+
+    fn read(body: &mut Body<'_>) -> Result<Wish, Fault> {
+        let level = body.within(1, 8)?;
+        let weight = i16::from_le_bytes(body.bytes()?);
+        if !weight_fits(weight) {
+            return Err(Fault::Bad(Refusal::OutOfRange));
+        }
+        let n = body.within(1, 16)?;
+        let literals = body.several(n)?;
+        Ok(Wish {
+            level,
+            weight,
+            literals,
+        })
     }
-    b.end()?;
-    Ok((count, house))
 }
 
-pub(crate) fn rule(heap: Global, count: u8, body: &[u8]) -> Result<Rule, Fault>
-    ensures { Parses rule_of (rule_body count body.now) result [] }
-{
-    let mut b = Body { rest: body };
-    let n = b.within(0, 8)?;
-    let head = b.constraint(heap, count)?;
-    let body = b.constraints(heap, count, n)?;
-    b.end()?;
-    Ok(Rule { head, body })
-}
+#[tactic(auto, using(crate::proofs::Fields::little_of_1, crate::proofs::Fields::little_of_8), unfolding(crate::specs::Format::act_fields, crate::specs::Parser::field, crate::specs::Format::act_of))]
+impl Field for Act {
+    ghost Meaning = { Act };
 
-pub(crate) fn clause(heap: Global, count: u8, body: &[u8]) -> Result<Clause, Fault>
-    ensures { Parses clause_of (clause_body count body.now) result [] }
-{
-    let mut b = Body { rest: body };
-    let n = b.within(0, 32)?;
-    let literals = b.literals(heap, count, n)?;
-    b.end()?;
-    Ok(Clause { literals })
-}
+    ghost meaning = { λ a. a };
 
-pub(crate) fn wish(heap: Global, count: u8, body: &[u8]) -> Result<Wish, Fault>
-    ensures { Parses wish_of (wish_body count body.now) result [] }
-{
-    let mut b = Body { rest: body };
-    let level = b.within(1, 8)?;
-    let weight = b.signed()?;
-    if !weight_fits(weight) {
-        return Err(Fault::Bad(Refusal::OutOfRange));
+    ghost parser = { λ _. act_fields };
+
+    fn read(body: &mut Body<'_>) -> Result<Act, Fault> {
+        let code = body.within(1, 4)?;
+        match code {
+            1 => {
+                let [mark] = body.bytes::<1>()?;
+                Ok(Act::Pin(mark))
+            }
+            2 => {
+                let [mark] = body.bytes::<1>()?;
+                Ok(Act::Bar(mark))
+            }
+            3 => Ok(Act::Strike(u64::from_le_bytes(body.bytes()?))),
+            _ => Ok(Act::Undo),
+        }
     }
-    let n = b.within(1, 16)?;
-    let literals = b.literals(heap, count, n)?;
-    b.end()?;
-    Ok(Wish {
-        level,
-        weight,
-        literals,
-    })
-}
-
-pub(crate) fn act(body: &[u8]) -> Result<Act, Refusal>
-    ensures { act_body body.now ≡ parsed result [] }
-{
-    let mut b = Body { rest: body };
-    let code = b.within(1, 4)?;
-    let act = b.act_of(code)?;
-    b.end()?;
-    Ok(act)
 }

@@ -16,7 +16,7 @@ pub struct Record<'a> {
 fn length_fits(n: u32) -> bool
     ensures { result ≡ (nat_le 2 n && nat_le n 1024) }
 {
-    2 <= n && n <= 1024
+    (2..=1024).contains(&n)
 }
 
 // Why fewer than six bytes are no record.

@@ -1,15 +1,16 @@
 // A file, record by record.
-ghost use Rattle.std.specs.Prelude.{◌≡◌, ◌≤◌, [], IfOk};
-ghost use Rattle.rulefile.specs.Format.{room_at, later_body, first as first_spec, later, decode, file_or_head_alone};
-ghost use Rattle.rulefile.specs.Answers.{file_of, draft_of, Parses, parsed_draft, located_at};
+ghost use Rattle.std.specs.Prelude.{◌≡◌, ◌≤◌, ◌<◌, [], length, map, IfOk, MatchResult};
+ghost use Rattle.rulefile.specs.Parser.{took, wholly};
+ghost use Rattle.rulefile.specs.Format.{room_at, head_alone, first as first_spec, later, whole as whole_spec, decode, file_or_head_alone};
+ghost use Rattle.rulefile.specs.Answers.{file_of, draft_of, Parses, Faults, one_more};
 ghost use Rattle.rulefile.specs.Laws.{Fits};
 ghost use Rattle.rulefile.specs.Reading.{Reading};
 
-use crate::body::{act, clause, head, rule, wish};
+use crate::body::{Body, Field};
 use crate::files::RuleFile;
-use crate::frame::{Record, cut};
-use crate::records::{Act, Clause, Kind, Rule};
-use crate::refusals::{BadFile, Fault, ReadError, Refusal};
+use crate::frame::cut;
+use crate::records::{Act, Clause, Head, Kind, Rule};
+use crate::refusals::{Fault, ReadError, Refusal};
 use crate::wishes::Wish;
 use sheets::Sheet;
 use std::alloc::{AllocError, Global};
@@ -18,9 +19,10 @@ const MOST_BYTES: usize = 32_768;
 
 const MOST_OF_KIND: usize = 256;
 
-// A file that is not yet read to its end, so that nothing is known of the whole.
+// A file that is not yet read to its end. It is no RuleFile, whose limits each `?` on the way would have to prove.
 #[derive(Drop)]
 pub struct Draft {
+    heap: Global,
     count: u8,
     house: Sheet,
     rules: Vec<Rule>,
@@ -41,85 +43,91 @@ fn room(n: usize) -> Result<(), Refusal>
     }
 }
 
-// The file that has read only its head.
-fn begin(heap: Global, r: &Record<'_>) -> Result<Draft, Refusal>
-    ensures { first_spec r.now.kind r.now.body.now ≡ parsed_draft result }
+// One more of a kind is read from its body, and put behind those that were read before.
+fn add_to<T: Field>(list: &mut Vec<T>, body: Body<'_>) -> Result<(), Fault>
+    ensures { Parses (λ _. map T.meaning list.new.items) (one_more (map T.meaning list.old.items) (wholly (T.parser body.entry.count)) body.entry.rest.now) result [] }
 {
-    let Kind::Head = Kind::try_from(r.kind)? else {
-        return Err(Refusal::HeadMisplaced);
-    };
-    let (count, house) = head(r.body)?;
-    Ok(Draft {
-        count,
-        house,
-        rules: Vec::new(heap),
-        clauses: Vec::new(heap),
-        wishes: Vec::new(heap),
-        acts: Vec::new(heap),
-        order: Vec::new(heap),
-    })
+    room(list.len())?;
+    list.push(body.whole()?)?;
+    Ok(())
 }
 
 impl Draft {
-    fn add_rule(&mut self, heap: Global, body: &[u8]) -> Result<(), Fault>
-        ensures { Parses (λ _. draft_of self.new) (later_body (draft_of self.old) Kind.Rule body.now) result [] }
+    // A file with nothing but its head.
+    fn head_alone(heap: Global, head: Head) -> Draft
+        ensures { draft_of result ≡ head_alone (head.count, head.house) }
     {
-        room(self.rules.len())?;
-        let read = rule(heap, self.count, body)?;
-        self.rules.push(read)?;
-        self.order.push(Kind::Rule)?;
-        Ok(())
-    }
-
-    fn add_clause(&mut self, heap: Global, body: &[u8]) -> Result<(), Fault>
-        ensures { Parses (λ _. draft_of self.new) (later_body (draft_of self.old) Kind.Clause body.now) result [] }
-    {
-        room(self.clauses.len())?;
-        let read = clause(heap, self.count, body)?;
-        self.clauses.push(read)?;
-        self.order.push(Kind::Clause)?;
-        Ok(())
-    }
-
-    fn add_wish(&mut self, heap: Global, body: &[u8]) -> Result<(), Fault>
-        ensures { Parses (λ _. draft_of self.new) (later_body (draft_of self.old) Kind.Wish body.now) result [] }
-    {
-        room(self.wishes.len())?;
-        let read = wish(heap, self.count, body)?;
-        self.wishes.push(read)?;
-        self.order.push(Kind::Wish)?;
-        Ok(())
-    }
-
-    fn add_act(&mut self, body: &[u8]) -> Result<(), Fault>
-        ensures { Parses (λ _. draft_of self.new) (later_body (draft_of self.old) Kind.Act body.now) result [] }
-    {
-        room(self.acts.len())?;
-        let read = act(body)?;
-        self.acts.push(read)?;
-        self.order.push(Kind::Act)?;
-        Ok(())
-    }
-
-    // One later record.
-    fn add(&mut self, heap: Global, r: &Record<'_>) -> Result<(), Fault>
-        ensures { Parses (λ _. draft_of self.new) (later (draft_of self.old) r.now.kind r.now.body.now) result [] }
-    {
-        match Kind::try_from(r.kind)? {
-            Kind::Head => Err(Fault::Bad(Refusal::HeadMisplaced)),
-            Kind::Rule => self.add_rule(heap, r.body),
-            Kind::Clause => self.add_clause(heap, r.body),
-            Kind::Wish => self.add_wish(heap, r.body),
-            Kind::Act => self.add_act(r.body),
+        Draft {
+            heap,
+            count: head.count,
+            house: head.house,
+            rules: Vec::new(heap),
+            clauses: Vec::new(heap),
+            wishes: Vec::new(heap),
+            acts: Vec::new(heap),
+            order: Vec::new(heap),
         }
     }
 
+    // The file that has read only its head, and the bytes after that.
+    #[tactic(auto, unfolding(crate::specs::Format::first, crate::specs::Format::first_body, crate::specs::Format::head_body))]
+    fn begin(heap: Global, bytes: &[u8]) -> Result<(Draft, &[u8]), Fault>
+        ensures value { MatchResult result (λ p. whole_spec first_spec bytes.now ≡ took (draft_of p.0) p.1.now) (λ fault. Faults (whole_spec first_spec bytes.now) fault) }
+        ensures shorter { IfOk result (λ p. length p.1.now < length bytes.now) }
+    {
+        let record = cut(bytes)?;
+        let Kind::Head = Kind::try_from(record.kind)? else {
+            return Err(Fault::Bad(Refusal::HeadMisplaced));
+        };
+        // No mark is below the count before it is read.
+        let body = Body {
+            heap,
+            count: 0,
+            rest: record.body,
+        };
+        Ok((Draft::head_alone(heap, body.whole()?), record.after))
+    }
+
+    // What a later record says is added, by its kind.
+    #[tactic(auto, unfolding(crate::specs::Format::later, crate::specs::Format::later_body, crate::specs::Format::rule_body, crate::specs::Format::clause_body, crate::specs::Format::wish_body, crate::specs::Format::act_body))]
+    fn add(&mut self, code: u16, body: &[u8]) -> Result<(), Fault>
+        ensures { Parses (λ _. draft_of self.new) (later (draft_of self.old) code body.now) result [] }
+    {
+        let kind = Kind::try_from(code)?;
+        let body = Body {
+            heap: self.heap,
+            count: self.count,
+            rest: body,
+        };
+        match kind {
+            Kind::Head => return Err(Fault::Bad(Refusal::HeadMisplaced)),
+            Kind::Rule => add_to(&mut self.rules, body)?,
+            Kind::Clause => add_to(&mut self.clauses, body)?,
+            Kind::Wish => add_to(&mut self.wishes, body)?,
+            Kind::Act => add_to(&mut self.acts, body)?,
+        }
+        self.order.push(kind)?;
+        Ok(())
+    }
+
+    // The record at the front of the bytes is added; the answer is the bytes after it.
+    fn add_first<'a>(&mut self, bytes: &'a [u8]) -> Result<&'a [u8], Fault>
+        ensures value { MatchResult result (λ rest. whole_spec (later (draft_of self.old)) bytes.now ≡ took (draft_of self.new) rest.now) (λ fault. Faults (whole_spec (later (draft_of self.old)) bytes.now) fault) }
+        ensures shorter { IfOk result (λ rest. length rest.now < length bytes.now) }
+    {
+        let record = cut(bytes)?;
+        self.add(record.kind, record.body)?;
+        Ok(record.after)
+    }
+
     // The file, once it is read to its end.
+    #[tactic(auto, using(crate::proofs::Fits::fit_made))]
     fn finish(self) -> RuleFile
         requires { Fits (draft_of self) }
         ensures { file_of result ≡ draft_of self }
     {
         let Draft {
+            heap: _,
             count,
             house,
             rules,
@@ -140,51 +148,18 @@ impl Draft {
     }
 }
 
-fn refused(why: Refusal, at: usize) -> ReadError
-    requires { at ≤ 32768 }
-    ensures { result ≡ ReadError.Refused (record { why = why; at = at }) }
-{
-    ReadError::Refused(BadFile { why, at: at as u32 })
-}
-
-fn located(fault: Fault, at: usize) -> ReadError
-    requires { at ≤ 32768 }
-    ensures { result ≡ located_at fault at }
-{
-    match fault {
-        Fault::Bad(why) => refused(why, at),
-        Fault::Memory => ReadError::Memory,
-    }
-}
-
 // The file that the bytes stand for, or why and where they are refused.
 pub fn read(heap: Global, bytes: &[u8]) -> Result<RuleFile, ReadError>
     ensures { Reading bytes.now result }
 {
     let size = bytes.len();
     if size > MOST_BYTES {
-        return Err(refused(Refusal::FileTooLong, 0));
+        return Err(Fault::Bad(Refusal::FileTooLong).located(0));
     }
-    let first = match cut(bytes) {
-        Ok(r) => r,
-        Err(why) => return Err(refused(why, 0)),
-    };
-    let mut draft = match begin(heap, &first) {
-        Ok(d) => d,
-        Err(why) => return Err(refused(why, 0)),
-    };
-    let mut rest = first.after;
+    let (mut draft, mut rest) = Draft::begin(heap, bytes).map_err(|fault| fault.located(0))?;
     while !rest.is_empty() {
         let at = size - rest.len();
-        let next = match cut(rest) {
-            Ok(r) => r,
-            Err(why) => return Err(refused(why, at)),
-        };
-        match draft.add(heap, &next) {
-            Ok(()) => {}
-            Err(fault) => return Err(located(fault, at)),
-        }
-        rest = next.after;
+        rest = draft.add_first(rest).map_err(|fault| fault.located(at))?;
     }
     Ok(draft.finish())
 }
@@ -196,14 +171,9 @@ pub fn read_or_head_alone(heap: Global, bytes: &[u8]) -> Result<RuleFile, AllocE
     match read(heap, bytes) {
         Ok(file) => Ok(file),
         Err(ReadError::Memory) => Err(AllocError),
-        Err(ReadError::Refused(_)) => Ok(RuleFile {
-            count: 1,
-            house: 0,
-            rules: Vec::new(heap),
-            clauses: Vec::new(heap),
-            wishes: Vec::new(heap),
-            acts: Vec::new(heap),
-            order: Vec::new(heap),
-        }),
+        Err(ReadError::Refused(_)) => {
+            let head = Head { count: 1, house: 0 };
+            Ok(Draft::head_alone(heap, head).finish())
+        }
     }
 }

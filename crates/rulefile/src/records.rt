@@ -35,6 +35,13 @@ impl TryFrom<u16> for Kind {
     }
 }
 
+// The count of marks, and the house sheet.
+#[derive(Clone, Copy, Debug, PartialEq, Eq)]
+pub struct Head {
+    pub count: u8,
+    pub house: Sheet,
+}
+
 // The head holds, or a constraint of the body does not.
 #[derive(Drop)]
 pub struct Rule {

@@ -4,7 +4,7 @@ ghost use Rattle.rulefile.specs.Numbers.{number};
 ghost use Rattle.rulefile.specs.Words.{refusal_words, bad_file_words, read_error_words};
 ghost use Rattle.rulefile.specs.declared.refusals.Fault.TheVariants.{Bad, Memory};
 
-use std::alloc::{AllocError, AllocFailed};
+use std::alloc::AllocFailed;
 use std::error::Error;
 use std::fmt;
 
@@ -103,10 +103,26 @@ impl fmt::Display for ReadError {
 impl Error for ReadError {}
 
 // Why a part of a file was not read, before the offset is known.
-#[derive(Clone, Copy)]
+#[derive(Clone, Copy, Debug, PartialEq, Eq)]
 pub enum Fault {
     Bad(Refusal),
     Memory,
+}
+
+impl Fault {
+    ghost use Rattle.std.specs.Prelude.{◌≤◌};
+    ghost use Rattle.rulefile.specs.Answers.{located_at};
+
+    // The fault of the record at an offset, as the reader answers it.
+    pub fn located(self, at: usize) -> ReadError
+        requires { at ≤ 32768 }
+        ensures { result ≡ located_at self at }
+    {
+        match self {
+            Fault::Bad(why) => ReadError::Refused(BadFile { why, at: at as u32 }),
+            Fault::Memory => ReadError::Memory,
+        }
+    }
 }
 
 impl From<Refusal> for Fault {
@@ -114,14 +130,6 @@ impl From<Refusal> for Fault {
 
     fn from(why: Refusal) -> Fault {
         Fault::Bad(why)
-    }
-}
-
-impl From<AllocError> for Fault {
-    ghost from_gives = { λ _ r. r ≡ Memory };
-
-    fn from(_e: AllocError) -> Fault {
-        Fault::Memory
     }
 }
 

@@ -7,10 +7,10 @@ use Rattle.rulefile.specs.declared.refusals.Refusal.TheVariants.{FileTooLong, Re
 use Rattle.rulefile.specs.declared.refusals.BadFile.{BadFile}
 use Rattle.rulefile.specs.Model.{FileModel}
 use Rattle.rulefile.specs.Parser.{little}
-use Rattle.rulefile.specs.Format.{bad, decode}
+use Rattle.rulefile.specs.Format.{first, bad, decode}
 use Rattle.rulefile.specs.Reading.{Enough}
 use Rattle.rulefile.proofs.Frames.{cut_short, cut_range}
-use Rattle.rulefile.proofs.Drafts.{decode_long, decode_uncut}
+use Rattle.rulefile.proofs.Drafts.{whole_uncut, decode_long, decode_refused}
 use Rattle.rulefile.proofs.inputs.input_limit.Goals as goal
 
 -- why a file is refused; of an accepted one this is never asked
@@ -24,11 +24,11 @@ zeros m le e =
     let long : length {A = ℕ} (replicate m 0) ≡ m = length-replicate m 0 in
     ⊎_elim
     (λ lt.
-    let f : decode (replicate m 0) ≡ bad RecordCut 0 = decode_uncut (replicate m 0) (omega (arith, long)) (cut_short (replicate m 0) (omega (arith, long))) in
+    let f : decode (replicate m 0) ≡ bad RecordCut 0 = decode_refused (replicate m 0) (omega (arith, long)) (whole_uncut first (replicate m 0) (cut_short (replicate m 0) (omega (arith, long)))) in
     let other : RecordCut ≡ FileTooLong = ap why_of (sym f ∙ e) in cc)
     (λ ge.
-    let first : little (take 4 (replicate m 0)) ≡ 0 = ap little (take-replicate 4 m 0 ge) in
-    let f : decode (replicate m 0) ≡ bad LengthRange 0 = decode_uncut (replicate m 0) (omega (arith, long)) (cut_range (replicate m 0) 0 (omega (arith, long)) first refl) in
+    let low : little (take 4 (replicate m 0)) ≡ 0 = ap little (take-replicate 4 m 0 ge) in
+    let f : decode (replicate m 0) ≡ bad LengthRange 0 = decode_refused (replicate m 0) (omega (arith, long)) (whole_uncut first (replicate m 0) (cut_range (replicate m 0) 0 (omega (arith, long)) low refl)) in
     let other : LengthRange ≡ FileTooLong = ap why_of (sym f ∙ e) in cc)
     (cases_lt m 4)
 
