@@ -1,20 +1,15 @@
 -- The docket: one act more, and one less.
-use Rattle.std.proofs.Common.{◌≡◌, ℕ, ◌+◌, ◌-◌, ◌<◌, ◌≤◌, Bool, true, false, cond, List, [], ◌∷◌, ◌++◌, length, get_or, take, set, Some, None, Option, sym, refl, ap, ◌∙◌, arith}
-use Rattle.std.proofs.lemmas.List.{length-take-le, length_push, take_more, take_more_set}
+use Rattle.std.proofs.Common.{◌≡◌, ℕ, ◌<◌, ◌≤◌, Bool, true, false, cond, List, [], ◌∷◌, ◌++◌, length, Some, None, Option, sym, refl, ap, ◌∙◌, arith}
 use Rattle.std.proofs.lemmas.Bool.{and_parts, and_from, leb-false, lt-ltb}
 use Rattle.std.specs.List.{list_all}
+use Rattle.std.specs.Option.{option_to_list}
 use Rattle.sheets.specs.Sheets.{width}
 use Rattle.orders.specs.declared.acts.Act.{Act}
 use Rattle.orders.specs.declared.acts.Act.TheVariants.{Pin, Bar, Strike}
 use Rattle.orders.specs.declared.acts.Refusal.{Refusal}
 use Rattle.orders.specs.declared.acts.Refusal.TheVariants.{MarkRange, MarkTaken, SheetStruck, DocketFull}
-use Rattle.orders.specs.declared.docket.Docket.{Docket}
 use Rattle.orders.specs.Acts.{most_acts, in_range}
-use Rattle.orders.specs.Dockets.{beyond, applies, first_that, refused_act, unless, taken, undo_refused, undone}
-use Rattle.orders.specs.Models.{standing}
-
-pub standing_length : (d : Docket) → length (standing d) ≡ d.len
-standing_length d = length-take-le d.len d.acts (omega (arith, d.few, d.room))
+use Rattle.orders.specs.Dockets.{beyond, applies, first_that, refused_act, unless, taken, undone}
 
 -- ---- acts that name only marks that there are
 
@@ -64,36 +59,12 @@ module _ (n : ℕ) (acts : List Act) where
       go (Some why) e = low
       go None e = all_push acts a low (accepted_range a few e)
 
--- ---- the memory of the docket, before and after
+-- ---- the last act taken off
 
 undone_push : (acts : List Act) (a : Act) → undone (acts ++ (a ∷ [])) ≡ acts
 undone_push [] a = refl
 undone_push (x ∷ []) a = refl
 undone_push (x ∷ (y ∷ acts)) a = ap (λ l. x ∷ l) (undone_push (y ∷ acts) a)
 
-undo_push : (acts : List Act) (a : Act) → undo_refused (acts ++ (a ∷ [])) ≡ None
-undo_push [] a = refl
-undo_push (x ∷ acts) a = refl
-
-module _ (d : Docket) where
-  -- one act more
-  pub added : (a : Act) → d.len < most_acts → take (d.len + 1) (set d.acts d.len a) ≡ standing d ++ (a ∷ [])
-  added a lt = take_more_set d.acts d.len a (omega (arith, d.room))
-
-  pub added_length : (a : Act) → d.len < most_acts → d.len + 1 ≡ length (take (d.len + 1) (set d.acts d.len a))
-  added_length a lt = sym (ap length (added a lt) ∙ length_push (standing d) a ∙ ap (λ n. n + 1) (standing_length d))
-
-  -- the last act taken off
-  parted : 0 < d.len → standing d ≡ take (d.len - 1) d.acts ++ (get_or d.acts (d.len - 1) (Pin 0) ∷ [])
-  parted pos =
-      let e : d.len - 1 + 1 ≡ d.len = omega arith in
-      ap (λ n. take n d.acts) (sym e) ∙ take_more d.acts (d.len - 1) (Pin 0) (omega (arith, d.few, d.room))
-
-  pub undone_front : 0 < d.len → take (d.len - 1) d.acts ≡ undone (standing d)
-  undone_front pos = sym (ap undone (parted pos) ∙ undone_push (take (d.len - 1) d.acts) (get_or d.acts (d.len - 1) (Pin 0)))
-
-  pub undone_length : 0 < d.len → d.len - 1 ≡ length (take (d.len - 1) d.acts)
-  undone_length pos = sym (length-take-le (d.len - 1) d.acts (omega (arith, d.few, d.room)))
-
-  pub undo_accepted : 0 < d.len → undo_refused (standing d) ≡ None
-  undo_accepted pos = ap undo_refused (parted pos) ∙ undo_push (take (d.len - 1) d.acts) (get_or d.acts (d.len - 1) (Pin 0))
+pub undone_pop : (old new : List Act) (last : Option Act) (a : Act) → old ≡ new ++ option_to_list last → last ≡ Some a → new ≡ undone old
+undone_pop old new last a parts is = sym (ap undone (parts ∙ ap (λ o. new ++ option_to_list o) is) ∙ undone_push new a)

@@ -1,5 +1,5 @@
 -- What the code holds, in the words of the definitions.
-use Rattle.std.specs.Prelude.{◌≡◌, ℕ, ◌-◌, List, take, vec_len, vec_capacity, Result, Vec}
+use Rattle.std.specs.Prelude.{◌≡◌, ℕ, ◌-◌, List, vec_len, vec_capacity, Result, Vec}
 use Rattle.sheets.specs.Judging.{Judging}
 use Rattle.orders.specs.declared.acts.Act.{Act}
 use Rattle.orders.specs.declared.acts.Refusal.{Refusal}
@@ -10,7 +10,7 @@ use Rattle.orders.specs.Dockets.{refused_act, undo_refused, taken, undone, retur
 
 -- the acts that stand
 abbrev pub standing : Docket → List Act
-standing d = take d.len d.acts
+standing d = d.acts.items
 
 abbrev pub acts_of : {J : Type 0} → Acts J → List Act
 acts_of a = standing a.docket

@@ -16,6 +16,17 @@ pub enum Act {
     Strike(Sheet),
 }
 
+// What the unused places of a docket hold.
+impl Default for Act {
+    ghost use Rattle.orders.specs.declared.acts.Act.TheVariants.{Pin};
+
+    ghost is_default = { λ act. act ≡ Pin 0 };
+
+    fn default() -> Self {
+        Act::Pin(0)
+    }
+}
+
 impl Act {
     // It pins or bars the mark.
     pub(crate) fn names(self, mark: Mark) -> bool

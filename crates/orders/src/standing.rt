@@ -10,7 +10,8 @@ ghost use Rattle.orders.specs.Dockets.{refused_act, taken, undo_refused, undone,
 ghost use Rattle.orders.specs.Models.{standing};
 
 use crate::acts::{Act, Refusal};
-use crate::docket::{Docket, MOST_ACTS};
+use crate::docket::Docket;
+use arrayvec::ArrayVec;
 use sheets::{Mark, PartSheet, Sheet, within_count};
 
 impl Docket {
@@ -19,44 +20,43 @@ impl Docket {
         ensures { standing result ≡ [] }
     {
         Docket {
-            acts: [Act::Pin(0); MOST_ACTS],
-            len: 0,
+            acts: ArrayVec::new(),
         }
     }
 
-    // The acts that stand.
-    fn standing(&self) -> &[Act]
-        ensures { result.now ≡ standing self.now }
+    // How many acts stand.
+    fn count(&self) -> u8
+        ensures { result ≡ length (standing self.now) }
     {
-        &self.acts[0..self.len as usize]
+        self.acts.len() as u8
     }
 
     // An act that stands calls the part-sheet dead.
     pub(crate) fn calls_dead(&self, part: PartSheet) -> bool
         ensures { result ≡ list_any (breaks part.present part.absent) (standing self.now) }
     {
-        self.standing().iter().any(|act| act.breaks(part))
+        self.acts.iter().any(|act| act.breaks(part))
     }
 
     // An act that stands pins or bars the mark.
     fn is_named(&self, mark: Mark) -> bool
         ensures { result ≡ list_any (names mark) (standing self.now) }
     {
-        self.standing().iter().any(|act| act.names(mark))
+        self.acts.iter().any(|act| act.names(mark))
     }
 
     // An act that stands strikes the sheet.
     fn is_struck(&self, sheet: Sheet) -> bool
         ensures { result ≡ list_any (strikes sheet) (standing self.now) }
     {
-        self.standing().iter().any(|act| act.strikes(sheet))
+        self.acts.iter().any(|act| act.strikes(sheet))
     }
 
     // Refuses one act more where as many stand as can.
     fn check_room(&self) -> Result<(), Refusal>
         ensures { result_err result ≡ (if nat_le most_acts (length (standing self.now)) then Some DocketFull else None) }
     {
-        if self.len as usize >= MOST_ACTS {
+        if self.acts.is_full() {
             return Err(Refusal::DocketFull);
         }
         Ok(())
@@ -105,9 +105,8 @@ impl Docket {
         ensures after { standing self.new ≡ taken count (standing self.old) act }
     {
         self.check_act(count, act)?;
-        self.acts[self.len as usize] = act;
-        self.len += 1;
-        Ok(self.len)
+        self.acts.push(act);
+        Ok(self.count())
     }
 
     // Takes the last act off; returns how many acts then stand.
@@ -115,10 +114,7 @@ impl Docket {
         ensures answer { result ≡ returned (undo_refused (standing self.old)) (standing self.new) }
         ensures after { standing self.new ≡ undone (standing self.old) }
     {
-        if self.len == 0 {
-            return Err(Refusal::DocketEmpty);
-        }
-        self.len -= 1;
-        Ok(self.len)
+        self.acts.pop().ok_or(Refusal::DocketEmpty)?;
+        Ok(self.count())
     }
 }
