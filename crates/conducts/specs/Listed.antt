@@ -3,7 +3,7 @@ use Rattle.std.specs.Prelude.{◌≡◌, ℕ, ◌^◌, ◌<◌, ◌≤◌, true,
 use Rattle.std.proofs.Common.{sym, ap, ◌∙◌, ⊎_elim, arith, pow_mono}
 use Rattle.std.specs.Int.Bits.{and_lt}
 use Rattle.std.proofs.lemmas.Bool.{both_ways, cases_Bool, and_from, and_parts, and_left, or_cases, or_left, or_right, not-true, not-false, ltb-true, eqb-true, eq-eqb}
-use Rattle.sheets.specs.Lists.{all, any}
+use Rattle.std.specs.List.{list_all, list_any}
 use Rattle.sheets.specs.Sheets.{width, has, Part, Within, Full, Subset}
 use Rattle.sheets.specs.Judging.{JudgeLaws}
 use Rattle.sheets.specs.Bits.{has_and, same_marks, below_marks}
@@ -38,21 +38,21 @@ within p a z word t =
 
 -- ---- listed sheets
 
-listed_below : (count z : ℕ) (zs : List ℕ) → all (is_below count) zs ≡ true → any (nat_eq z) zs ≡ true → z < 2 ^ count
-listed_below count z [] h t = absurd (both_ways (any (nat_eq z) []) refl t)
+listed_below : (count z : ℕ) (zs : List ℕ) → list_all (is_below count) zs ≡ true → list_any (nat_eq z) zs ≡ true → z < 2 ^ count
+listed_below count z [] h t = absurd (both_ways (list_any (nat_eq z) []) refl t)
 listed_below count z (y ∷ zs) h t =
-    let b = and_parts (is_below count y) (all (is_below count) zs) h in
+    let b = and_parts (is_below count y) (list_all (is_below count) zs) h in
     ⊎_elim
     (λ e. let same = eqb-true z y e in let lt = ltb-true y (2 ^ count) b.0 in omega arith)
     (λ e. listed_below count z zs b.1 e)
-    (or_cases (z == y) (any (nat_eq z) zs) t)
+    (or_cases (z == y) (list_any (nat_eq z) zs) t)
 
-listed_lies : (p a z : ℕ) (zs : List ℕ) → lies_within p a z ≡ true → any (nat_eq z) zs ≡ true → any (lies_within p a) zs ≡ true
+listed_lies : (p a z : ℕ) (zs : List ℕ) → lies_within p a z ≡ true → list_any (nat_eq z) zs ≡ true → list_any (lies_within p a) zs ≡ true
 listed_lies p a z [] l t = t
 listed_lies p a z (y ∷ zs) l t = ⊎_elim
-    (λ e. or_left (lies_within p a y) (any (lies_within p a) zs) (ap (lies_within p a) (sym (eqb-true z y e)) ∙ l))
-    (λ e. or_right (lies_within p a y) (any (lies_within p a) zs) (listed_lies p a z zs l e))
-    (or_cases (z == y) (any (nat_eq z) zs) t)
+    (λ e. or_left (lies_within p a y) (list_any (lies_within p a) zs) (ap (lies_within p a) (sym (eqb-true z y e)) ∙ l))
+    (λ e. or_right (lies_within p a y) (list_any (lies_within p a) zs) (listed_lies p a z zs l e))
+    (or_cases (z == y) (list_any (nat_eq z) zs) t)
 
 module _ (count : ℕ) (few : count ≤ width) (p a : ℕ) (part : Part p a) (every : Full p a) where
   word_below : (z : ℕ) → is_below count z ≡ true → z < 2 ^ width
@@ -61,21 +61,21 @@ module _ (count : ℕ) (few : count ≤ width) (p a : ℕ) (part : Part p a) (ev
       let lt = ltb-true z (2 ^ count) t in
       omega arith
 
-  full_listed : (zs : List ℕ) → all (is_below count) zs ≡ true → any (lies_within p a) zs ≡ true → any (nat_eq p) zs ≡ true
+  full_listed : (zs : List ℕ) → list_all (is_below count) zs ≡ true → list_any (lies_within p a) zs ≡ true → list_any (nat_eq p) zs ≡ true
   full_listed [] h t = t
   full_listed (z ∷ zs) h t =
-      let b = and_parts (is_below count z) (all (is_below count) zs) h in
+      let b = and_parts (is_below count z) (list_all (is_below count) zs) h in
       ⊎_elim
-      (λ e. or_left (p == z) (any (nat_eq p) zs) (eq-eqb p z (sym (within_full p a part every z (within p a z (word_below z b.0) e)))))
-      (λ e. or_right (p == z) (any (nat_eq p) zs) (full_listed zs b.1 e))
-      (or_cases (lies_within p a z) (any (lies_within p a) zs) t)
+      (λ e. or_left (p == z) (list_any (nat_eq p) zs) (eq-eqb p z (sym (within_full p a part every z (within p a z (word_below z b.0) e)))))
+      (λ e. or_right (p == z) (list_any (nat_eq p) zs) (full_listed zs b.1 e))
+      (or_cases (lies_within p a z) (list_any (lies_within p a) zs) t)
 
 -- ---- the laws
 
-module _ (count : ℕ) (zs : List ℕ) (some : 1 ≤ count) (few : count ≤ width) (below : all (is_below count) zs ≡ true) where
+module _ (count : ℕ) (zs : List ℕ) (some : 1 ≤ count) (few : count ≤ width) (below : list_all (is_below count) zs ≡ true) where
   table_sound : (p a z : ℕ) → Part p a → (table_of count zs).dead p a ≡ true → Within p a z → (table_of count zs).allows z → ⊥
   table_sound p a z part dead w al =
-      let one = any (lies_within p a) zs in
+      let one = list_any (lies_within p a) zs in
       both_ways one (not-true one dead) (listed_lies p a z zs (lies p a z part w) al)
 
   pub table_laws : JudgeLaws (table_of count zs)
@@ -85,5 +85,5 @@ module _ (count : ℕ) (zs : List ℕ) (some : 1 ≤ count) (few : count ≤ wid
     inside = λ z al. below_marks count z (listed_below count z zs below al);
     sound = table_sound;
     full_dead = λ p a part every dead. table_sound p a p part dead (within_itself p a part);
-    full_allowed = λ p a part every alive. full_listed count few p a part every zs below (not-false (any (lies_within p a) zs) alive);
+    full_allowed = λ p a part every alive. full_listed count few p a part every zs below (not-false (list_any (lies_within p a) zs) alive);
   }

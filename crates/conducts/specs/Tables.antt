@@ -1,6 +1,6 @@
 -- A table of sheets as a judge.
 use Rattle.std.specs.Prelude.{◌≡◌, ℕ, ◌^◌, Bool, true, not, ◌&&◌, List, ◌==◌, bit_and, nat_eq, nat_lt}
-use Rattle.sheets.specs.Lists.{any}
+use Rattle.std.specs.List.{list_any}
 use Rattle.sheets.specs.Judging.{Judging}
 
 -- the sheet has only marks below the count
@@ -15,6 +15,6 @@ lies_within p a z = bit_and p z == p && bit_and a z == 0
 abbrev pub table_of : ℕ → List ℕ → Judging
 table_of count listed = record {
   count = count;
-  allows = λ z. any (nat_eq z) listed ≡ true;
-  dead = λ p a. not (any (lies_within p a) listed);
+  allows = λ z. list_any (nat_eq z) listed ≡ true;
+  dead = λ p a. not (list_any (lies_within p a) listed);
 }

@@ -1,9 +1,22 @@
 // The best sheet, by going through all of them.
 use orders::Act;
-use sheets::{Mark, PartSheet, Sheet};
+use sheets::{Mark, PartSheet, Sheet, first_marks};
 
 // Of two costs the first parts are compared before the second.
-pub type Cost = (u64, u64);
+#[derive(Clone, Copy, PartialEq, Eq, PartialOrd, Ord)]
+pub struct Cost(u64, u64);
+
+impl From<u64> for Cost {
+    fn from(first: u64) -> Cost {
+        Cost(first, 0)
+    }
+}
+
+impl From<(u64, u64)> for Cost {
+    fn from(parts: (u64, u64)) -> Cost {
+        Cost(parts.0, parts.1)
+    }
+}
 
 // What an order allows and what its sheets cost, by means of the program's own.
 #[derive(Drop)]
@@ -15,9 +28,10 @@ pub struct Case {
     pub second: Sheet,
 }
 
-// How many sheets of the marks below a count there are; the count is at most 16.
-pub fn all_sheets(count: u8) -> Sheet {
-    1 << count.min(16)
+impl Case {
+    pub fn cost(&self, sheet: Sheet) -> Cost {
+        Cost(sheet & self.first, sheet & self.second)
+    }
 }
 
 fn is_in(sheet: Sheet, mark: Mark) -> bool {
@@ -32,81 +46,38 @@ fn keeps(act: Act, sheet: Sheet) -> bool {
     }
 }
 
-fn keeps_all(acts: &[Act], sheet: Sheet) -> bool {
-    for act in acts {
-        if !keeps(*act, sheet) {
-            return false;
-        }
-    }
-    true
+// A number by which sheets are ordered: the earlier of two lacks the lowest mark on which they differ.
+fn turn_of(sheet: Sheet) -> u64 {
+    sheet.reverse_bits()
 }
 
-pub fn is_less(a: Cost, b: Cost) -> bool {
-    a.0 < b.0 || a.0 == b.0 && a.1 < b.1
+// The sheets that a case allows and that keep the acts.
+#[derive(Clone, Copy)]
+pub struct OpenSheets<'a> {
+    pub case: &'a Case,
+    pub acts: &'a [Act],
 }
 
-pub fn is_same(a: Cost, b: Cost) -> bool {
-    a.0 == b.0 && a.1 == b.1
-}
-
-// The first sheet lacks the lowest of these marks on which the two differ.
-fn is_earlier(sheet: Sheet, other: Sheet, among: Sheet) -> bool {
-    let differ = (sheet ^ other) & among;
-    differ != 0 && sheet & differ & differ.wrapping_neg() == 0
-}
-
-fn is_better(sheet: Sheet, cost: Cost, best: Option<(Sheet, Cost)>) -> bool {
-    match best {
-        None => true,
-        Some((other, least)) => {
-            is_less(cost, least) || is_same(cost, least) && is_earlier(sheet, other, Sheet::MAX)
-        }
-    }
-}
-
-impl Case {
-    fn allows(&self, sheet: Sheet) -> bool {
-        for allowed in self.allowed.as_slice() {
-            if *allowed == sheet {
-                return true;
-            }
-        }
-        false
+impl OpenSheets<'_> {
+    pub fn has(self, sheet: Sheet) -> bool {
+        self.case.allowed.contains(&sheet) && self.acts.iter().all(|act| keeps(*act, sheet))
     }
 
-    pub fn cost(&self, sheet: Sheet) -> Cost {
-        (sheet & self.first, sheet & self.second)
+    // The cheapest of them with its cost, of equals the earliest.
+    pub fn best(self) -> Option<(Sheet, Cost)> {
+        (0..=first_marks(self.case.count))
+            .filter(|sheet| self.has(*sheet))
+            .map(|sheet| (sheet, self.case.cost(sheet)))
+            .min_by_key(|best| (best.1, turn_of(best.0)))
     }
 
-    // The sheet is allowed and keeps the acts.
-    pub fn is_open(&self, acts: &[Act], sheet: Sheet) -> bool {
-        self.allows(sheet) && keeps_all(acts, sheet)
-    }
-
-    // The cheapest such sheet, of equals the earliest.
-    pub fn best(&self, acts: &[Act]) -> Option<(Sheet, Cost)> {
-        let mut best = None;
-        for sheet in 0..all_sheets(self.count) {
-            let cost = self.cost(sheet);
-            if self.is_open(acts, sheet) && is_better(sheet, cost, best) {
-                best = Some((sheet, cost));
-            }
-        }
-        best
-    }
-
-    // Such a sheet lies before the place and costs less than the limit; with no limit, any that lies there.
-    pub fn is_missed(&self, acts: &[Act], place: PartSheet, limit: Option<Cost>) -> bool {
+    // One of them lies before the place and costs less than the limit; with no limit, one that lies there.
+    pub fn is_missed(self, place: PartSheet, limit: Option<Cost>) -> bool {
         let decided = place.present() | place.absent();
-        for sheet in 0..all_sheets(self.count) {
-            let cheap = match limit {
-                None => true,
-                Some(cost) => is_less(self.cost(sheet), cost),
-            };
-            if cheap && is_earlier(sheet, place.present(), decided) && self.is_open(acts, sheet) {
-                return true;
-            }
-        }
-        false
+        (0..=first_marks(self.case.count)).any(|sheet| {
+            turn_of(sheet & decided) < turn_of(place.present())
+                && limit.is_none_or(|cost| self.case.cost(sheet) < cost)
+                && self.has(sheet)
+        })
     }
 }

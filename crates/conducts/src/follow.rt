@@ -1,113 +1,99 @@
 // A log, event by event, against the rules of the docket and all sheets.
-use crate::brute::{Case, Cost, is_less, is_same};
-use crate::ledger::Ledger;
+use crate::brute::{Case, Cost, OpenSheets};
+use crate::ledger::{Ledger, number_of};
 use crate::tally::Tally;
-use orders::{Act, Answer, Call, Event, Progress};
+use orders::{Answer, Call, Event, Progress, Refusal};
 use sheets::Sheet;
 use std::alloc::{AllocError, Global};
 
-// A cost as two numbers.
-pub trait Parts: Copy {
-    fn parts(self) -> Cost;
+// A sheet that is shown, with its cost as the program's own.
+fn with_cost<C: Into<Cost>>(held: Option<(Sheet, C)>) -> Option<(Sheet, Cost)> {
+    held.map(|(sheet, cost)| (sheet, cost.into()))
 }
 
-impl Parts for u64 {
-    fn parts(self) -> Cost {
-        (self, 0)
-    }
-}
-
-impl Parts for (u64, u64) {
-    fn parts(self) -> Cost {
-        self
-    }
-}
-
-// The cost that is shown.
-fn cost_of<C: Parts>(held: Option<(Sheet, C)>) -> Option<Cost> {
-    match held {
-        Some((_, cost)) => Some(cost.parts()),
-        None => None,
-    }
+fn cost_of(held: Option<(Sheet, Cost)>) -> Option<Cost> {
+    held.map(|(_, cost)| cost)
 }
 
 // The second cost is not above the first, and a cost that was shown is not lost.
 fn is_no_rise(before: Option<Cost>, after: Option<Cost>) -> bool {
-    match (before, after) {
-        (None, _) => true,
-        (Some(_), None) => false,
-        (Some(old), Some(new)) => !is_less(old, new),
-    }
+    before.is_none_or(|old| after.is_some_and(|new| new <= old))
 }
 
-// The sheet is allowed and keeps the acts, and its cost is right.
-fn is_held_right<C: Parts>(case: &Case, acts: &[Act], held: Option<(Sheet, C)>) -> bool {
-    match held {
-        None => true,
-        Some((sheet, cost)) => {
-            case.is_open(acts, sheet) && is_same(cost.parts(), case.cost(sheet))
-        }
-    }
+fn is_progress_right<C: Copy + Into<Cost>>(
+    open: OpenSheets<'_>,
+    most: u16,
+    progress: Progress<C>,
+) -> bool {
+    let held = with_cost(progress.held);
+    let is_counted = progress.taken <= most && (progress.taken == most || progress.finished);
+    let is_ended = !progress.finished || held == open.best();
+    let is_covered = !open.is_missed(progress.place, cost_of(held));
+    let is_open = held.is_none_or(|(sheet, cost)| open.has(sheet) && cost == open.case.cost(sheet));
+    is_counted && is_ended && is_covered && is_open
 }
 
-// It is the sheet that going through all sheets finds, or there is none.
-fn is_best<C: Parts>(case: &Case, acts: &[Act], held: Option<(Sheet, C)>) -> bool {
-    match (case.best(acts), held) {
-        (None, None) => true,
-        (Some((best, least)), Some((sheet, cost))) => {
-            best == sheet && is_same(least, cost.parts())
+// The answer is the expected one: so many acts, a refusal that also has the right number, or none at another stage.
+fn is_expected<C: Copy>(expected: Option<Result<usize, Refusal>>, answer: Answer<C>) -> bool {
+    match (expected, answer) {
+        (Some(Ok(count)), Answer::Stands(stand)) => count == usize::from(stand),
+        (Some(Err(refusal)), Answer::Refused(why)) => {
+            why == refusal && why.number() == number_of(refusal)
         }
+        (None, Answer::Moved) => true,
         _ => false,
     }
 }
 
-fn is_progress_right<C: Parts>(
-    case: &Case,
-    acts: &[Act],
-    most: u16,
-    progress: Progress<C>,
-) -> bool {
-    let held = progress.held;
-    let counted = progress.taken <= most && (progress.taken == most || progress.finished);
-    let ended = !progress.finished || is_best(case, acts, held);
-    let covered = !case.is_missed(acts, progress.place, cost_of(held));
-    counted && ended && covered && is_held_right(case, acts, held)
+// What is known of an order, by means of the program's own, after some of its events.
+#[derive(Drop)]
+struct Follower<'a> {
+    case: &'a Case,
+    ledger: Ledger,
+    // The cost that the last event showed.
+    shown: Option<Cost>,
 }
 
-// The cost that is shown after the event, and whether its answer is right.
-fn check_event<C: Parts>(
-    case: &Case,
-    ledger: &mut Ledger,
-    shown: Option<Cost>,
-    event: Event<C>,
-) -> Result<(Option<Cost>, bool), AllocError> {
-    match (event.call, event.answer) {
-        (Call::Advance(most), Answer::Shown(progress)) => {
-            let cost = cost_of(progress.held);
-            let right = is_progress_right(case, ledger.acts(), most, progress);
-            Ok((cost, right && is_no_rise(shown, cost)))
+impl Follower<'_> {
+    fn open(&self) -> OpenSheets<'_> {
+        OpenSheets {
+            case: self.case,
+            acts: self.ledger.acts(),
         }
-        (Call::Settle, Answer::Final(held)) => {
-            let right = is_best(case, ledger.acts(), held);
-            Ok((None, right && is_no_rise(shown, cost_of(held))))
+    }
+
+    // Takes the next event; returns whether its answer is right.
+    fn take<C: Copy + Into<Cost>>(&mut self, event: Event<C>) -> bool {
+        let before = self.shown.take();
+        match (event.call, event.answer) {
+            (Call::Advance(most), Answer::Shown(progress)) => {
+                self.shown = cost_of(with_cost(progress.held));
+                is_no_rise(before, self.shown) && is_progress_right(self.open(), most, progress)
+            }
+            (Call::Settle, Answer::Final(held)) => {
+                let held = with_cost(held);
+                is_no_rise(before, cost_of(held)) && held == self.open().best()
+            }
+            (call, answer) => is_expected(self.ledger.take(call), answer),
         }
-        (call, answer) => Ok((None, ledger.take(call)?.is_met(answer))),
     }
 }
 
-pub fn follow<C: Parts>(
+pub fn follow<C: Copy + Into<Cost>>(
     heap: Global,
     case: &Case,
     log: &[Event<C>],
     tally: &mut Tally,
 ) -> Result<(), AllocError> {
-    let mut ledger = Ledger::new(heap, case.count);
-    let mut shown = None;
+    let ledger = Ledger::new(heap, case.count)?;
+    let mut follower = Follower {
+        case,
+        ledger,
+        shown: None,
+    };
     for event in log {
-        let (cost, is_right) = check_event(case, &mut ledger, shown, *event)?;
-        shown = cost;
-        tally.add_answer(event.answer);
-        tally.expect(is_right);
+        tally.add_answer(event.answer)?;
+        tally.expect(follower.take(*event));
     }
     Ok(())
 }

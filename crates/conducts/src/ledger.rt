@@ -1,127 +1,88 @@
 // The rules of a docket, kept on a plain list of acts.
-use orders::{Act, Answer, Call};
+ghost use Rattle.std.specs.Prelude.{◌≤◌, vec_capacity};
+
+use orders::{Act, Call, Refusal};
 use sheets::{Mark, Sheet};
 use std::alloc::{AllocError, Global};
 
 const MOST_ACTS: usize = 32;
 
-// What a call is to be answered.
-#[derive(Clone, Copy)]
-pub enum Expected {
-    Stands(usize),
-    Refused(u8),
-    Moved,
-}
-
-impl Expected {
-    pub fn is_met<C>(self, answer: Answer<C>) -> bool
-    where
-        C: Copy,
-    {
-        match (self, answer) {
-            (Expected::Stands(count), Answer::Stands(answered)) => count == usize::from(answered),
-            (Expected::Refused(number), Answer::Refused(why)) => number == why.number(),
-            (Expected::Moved, Answer::Moved) => true,
-            _ => false,
-        }
+// The number by which the refusal is to be known.
+pub fn number_of(refusal: Refusal) -> u8 {
+    match refusal {
+        Refusal::MarkRange => 21,
+        Refusal::MarkTaken => 22,
+        Refusal::SheetStruck => 24,
+        Refusal::DocketFull => 25,
+        Refusal::DocketEmpty => 26,
     }
 }
 
+// The count, and the acts that stand.
 #[derive(Drop)]
 pub struct Ledger {
     count: u8,
     acts: Vec<Act>,
-}
-
-fn names(act: Act, mark: Mark) -> bool {
-    match act {
-        Act::Pin(named) => named == mark,
-        Act::Bar(named) => named == mark,
-        Act::Strike(_) => false,
-    }
+    ghost room: { 32 ≤ vec_capacity acts },
 }
 
 impl Ledger {
-    pub fn new(heap: Global, count: u8) -> Ledger {
-        let acts = Vec::new(heap);
-        Ledger { count, acts }
+    pub fn new(heap: Global, count: u8) -> Result<Ledger, AllocError> {
+        let acts = Vec::with_capacity(heap, MOST_ACTS)?;
+        Ok(Ledger { count, acts })
     }
 
     pub fn acts(&self) -> &[Act] {
         self.acts.as_slice()
     }
 
-    fn has_named(&self, mark: Mark) -> bool {
-        for act in self.acts.as_slice() {
-            if names(*act, mark) {
-                return true;
-            }
-        }
-        false
-    }
-
-    fn has_struck(&self, sheet: Sheet) -> bool {
-        for act in self.acts.as_slice() {
-            if matches!(*act, Act::Strike(struck) if struck == sheet) {
-                return true;
-            }
-        }
-        false
-    }
-
-    fn mark_refusal(&self, mark: Mark) -> Option<u8> {
+    fn check_mark(&self, mark: Mark) -> Result<(), Refusal> {
         if mark >= self.count {
-            Some(21)
-        } else if self.has_named(mark) {
-            Some(22)
+            Err(Refusal::MarkRange)
+        } else if self.acts.contains(&Act::Pin(mark)) || self.acts.contains(&Act::Bar(mark)) {
+            Err(Refusal::MarkTaken)
         } else {
-            self.full_refusal()
+            Ok(())
         }
     }
 
-    fn sheet_refusal(&self, sheet: Sheet) -> Option<u8> {
+    fn check_sheet(&self, sheet: Sheet) -> Result<(), Refusal> {
         if self.count < 64 && sheet >= 1 << self.count {
-            Some(21)
-        } else if self.has_struck(sheet) {
-            Some(24)
+            Err(Refusal::MarkRange)
+        } else if self.acts.contains(&Act::Strike(sheet)) {
+            Err(Refusal::SheetStruck)
         } else {
-            self.full_refusal()
+            Ok(())
         }
     }
 
-    fn full_refusal(&self) -> Option<u8> {
+    // Adds the act, unless it is refused; returns how many acts then stand.
+    fn add(&mut self, act: Act) -> Result<usize, Refusal> {
+        match act {
+            Act::Pin(mark) | Act::Bar(mark) => self.check_mark(mark)?,
+            Act::Strike(sheet) => self.check_sheet(sheet)?,
+        }
         if self.acts.len() >= MOST_ACTS {
-            Some(25)
-        } else {
-            None
+            return Err(Refusal::DocketFull);
         }
+        self.acts.push_reserved(act);
+        Ok(self.acts.len())
     }
 
-    fn add(&mut self, act: Act, refusal: Option<u8>) -> Result<Expected, AllocError> {
-        match refusal {
-            Some(number) => Ok(Expected::Refused(number)),
-            None => {
-                self.acts.push(act)?;
-                Ok(Expected::Stands(self.acts.len()))
-            }
-        }
+    // Takes the last act off; returns how many acts then stand.
+    fn undo(&mut self) -> Result<usize, Refusal> {
+        let _last = self.acts.pop().ok_or(Refusal::DocketEmpty)?;
+        Ok(self.acts.len())
     }
 
-    fn undo(&mut self) -> Expected {
-        match self.acts.pop() {
-            Some(_) => Expected::Stands(self.acts.len()),
-            None => Expected::Refused(26),
-        }
-    }
-
-    // What a call is to be answered that takes no step of a search.
-    pub fn take(&mut self, call: Call) -> Result<Expected, AllocError> {
+    // What a call is to be answered that takes no step of a search; none where it moves the order to another stage.
+    pub fn take(&mut self, call: Call) -> Option<Result<usize, Refusal>> {
         match call {
-            Call::Pin(mark) => self.add(Act::Pin(mark), self.mark_refusal(mark)),
-            Call::Bar(mark) => self.add(Act::Bar(mark), self.mark_refusal(mark)),
-            Call::Strike(sheet) => self.add(Act::Strike(sheet), self.sheet_refusal(sheet)),
-            Call::Undo => Ok(self.undo()),
-            _ => Ok(Expected::Moved),
+            Call::Pin(mark) => Some(self.add(Act::Pin(mark))),
+            Call::Bar(mark) => Some(self.add(Act::Bar(mark))),
+            Call::Strike(sheet) => Some(self.add(Act::Strike(sheet))),
+            Call::Undo => Some(self.undo()),
+            _ => None,
         }
     }
 }

@@ -1,30 +1,22 @@
 // Orders at the most marks and the most acts, and a log whose room ends early.
 use crate::number::Number;
-use crate::table::Table;
-use anyhow::anyhow;
+use crate::table::{Table, table_of};
 use orders::{Answer, Call, Event, conduct};
 use sheets::Sheet;
 use std::alloc::{AllocError, Global};
-use std::io;
+use std::fmt;
+use std::fmt::Formatter;
 
 const LAST_MARK: Sheet = 1 << 63;
 
 fn wide_table(heap: Global) -> anyhow::Result<Table> {
-    let listed = Vec::from_slice(heap, &[0, LAST_MARK, LAST_MARK | 1 << 40, Sheet::MAX])?;
-    match Table::new(64, listed) {
-        Some(table) => Ok(table),
-        None => Err(anyhow!("the table is refused")),
-    }
+    table_of(heap, 64, &[0, LAST_MARK, LAST_MARK | 1 << 40, Sheet::MAX])
 }
 
 // 32 acts that stand, by way of one that is refused.
 fn full_calls(heap: Global) -> Result<Vec<Call>, AllocError> {
-    let mut calls = Vec::new(heap);
-    calls.push(Call::Pin(63))?;
-    calls.push(Call::Pin(64))?;
-    for mark in 0..31u8 {
-        calls.push(Call::Bar(mark))?;
-    }
+    let mut calls = vec![in heap; Call::Pin(63), Call::Pin(64)]?;
+    calls.extend((0..31u8).map(Call::Bar))?;
     Ok(calls)
 }
 
@@ -46,22 +38,28 @@ const LAST_CALLS: [Call; 14] = [
     Call::Settle,
 ];
 
-fn print_event(rt: &HostRuntime, event: Event<u64>) -> io::Result<()> {
-    let call = event.call;
-    print!(rt; "count 64, {call:?}: ")?;
-    match event.answer {
-        Answer::Stands(count) => println!(rt; "acts that stand: {count}"),
-        Answer::Refused(why) => {
-            let number = why.number();
-            println!(rt; "refused by {number}")
+// An event as the line that is printed of it.
+#[derive(Clone, Copy)]
+struct Line(Event<u64>);
+
+impl fmt::Display for Line {
+    fn fmt<W: fmt::Write>(&self, f: &mut Formatter<W>) -> fmt::Result {
+        let Event { call, answer } = self.0;
+        write!(f, "count 64, {call:?}: ")?;
+        match answer {
+            Answer::Stands(count) => write!(f, "acts that stand: {count}"),
+            Answer::Refused(why) => {
+                let number = why.number();
+                write!(f, "refused by {number}")
+            }
+            Answer::Moved => write!(f, "another stage"),
+            Answer::Shown(progress) => {
+                let taken = progress.taken;
+                write!(f, "{taken} steps")
+            }
+            Answer::Final(Some((sheet, cost))) => write!(f, "sheet {sheet}, cost {cost}"),
+            Answer::Final(None) => write!(f, "no sheet"),
         }
-        Answer::Moved => println!(rt; "another stage"),
-        Answer::Shown(progress) => {
-            let taken = progress.taken;
-            println!(rt; "{taken} steps")
-        }
-        Answer::Final(Some((sheet, cost))) => println!(rt; "sheet {sheet}, cost {cost}"),
-        Answer::Final(None) => println!(rt; "no sheet"),
     }
 }
 
@@ -74,8 +72,9 @@ pub fn run_limits(rt: &HostRuntime) -> anyhow::Result<()> {
     conduct(judge, Number::new(Sheet::MAX), calls.as_slice(), &mut log);
     for (at, event) in log.iter().enumerate() {
         // Of the acts between, only the last.
-        if at < 2 || at > 31 {
-            print_event(rt, *event)?;
+        if !(2..=31).contains(&at) {
+            let line = Line(*event);
+            println!(rt; "{line}")?;
         }
     }
     Ok(())

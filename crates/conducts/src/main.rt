@@ -15,16 +15,13 @@ mod tally;
 
 use limits::{run_limits, run_room};
 use runs::run_many;
-use tally::Tally;
 
 // Where the generator begins.
 const SEED: u64 = 5;
 
 fn run(rt: &HostRuntime) -> anyhow::Result<()> {
-    let mut tally = Tally::new();
-    run_many(rt, SEED, &mut tally)?;
+    let tally = run_many(rt, SEED)?;
     tally.print_answers(rt)?;
-    tally.print_refusals(rt)?;
     run_limits(rt)?;
     run_room(rt)
 }

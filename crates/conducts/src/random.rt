@@ -17,15 +17,14 @@ impl Random {
     }
 
     // The upper half of the next state, as the lower bits of such a generator repeat soon.
-    fn next(&mut self) -> u64 {
+    pub fn next(&mut self) -> u64 {
         self.state = self.state.wrapping_mul(FACTOR).wrapping_add(STEP);
         self.state >> 32
     }
 
     // A number below the limit; 0 where that is 0.
     pub fn below(&mut self, limit: u64) -> u64 {
-        let drawn = self.next();
-        if limit == 0 { 0 } else { drawn % limit }
+        self.next().checked_rem(limit).unwrap_or(0)
     }
 
     // The same for small numbers.

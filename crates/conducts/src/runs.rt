@@ -1,142 +1,124 @@
 // Orders over tables and numbers that are drawn by chance.
-use crate::brute::{Case, all_sheets};
-use crate::follow::{Parts, follow};
+use crate::brute::{Case, Cost};
+use crate::follow::follow;
 use crate::number::Number;
 use crate::random::Random;
-use crate::script::{Script, write_script};
-use crate::table::Table;
+use crate::script::Script;
+use crate::table::{Table, table_of};
 use crate::tally::Tally;
-use anyhow::anyhow;
 use orders::conduct;
-use sheets::{Both, FirstThen, Judge, Scale, Sheet};
+use sheets::{Both, FirstThen, Judge, Scale, Sheet, first_marks};
 use std::alloc::{AllocError, Global};
 
-// From 1 to 6, and more often a large one.
-fn draw_count(random: &mut Random) -> u8 {
-    random.small(6).max(random.small(6)).saturating_add(1)
-}
-
-// Each sheet of marks below the count with the same chance.
-fn draw_sheets(heap: Global, random: &mut Random, count: u8) -> Result<Vec<Sheet>, AllocError> {
-    let mut drawn = Vec::new(heap);
-    let seldom = random.below(6).saturating_add(1);
-    for sheet in 0..all_sheets(count) {
-        if random.below(seldom) == 0 {
-            drawn.push(sheet)?;
-        }
-    }
-    Ok(drawn)
-}
-
-fn in_both(heap: Global, some: &[Sheet], others: &[Sheet]) -> Result<Vec<Sheet>, AllocError> {
-    let mut both = Vec::new(heap);
-    for sheet in some {
-        if others.contains(sheet) {
-            both.push(*sheet)?;
-        }
-    }
-    Ok(both)
-}
-
-fn table_of(heap: Global, count: u8, listed: &[Sheet]) -> anyhow::Result<Table> {
-    match Table::new(count, Vec::from_slice(heap, listed)?) {
-        Some(table) => Ok(table),
-        None => Err(anyhow!("the table is refused")),
-    }
-}
-
-// What one run has beside its judge and its scale.
+// What runs are drawn with, and what is counted of them.
 #[derive(Drop)]
-struct Run {
-    case: Case,
-    script: Script,
-    room: usize,
-}
-
-fn run_order<J: Judge + Drop, S: Scale + Drop>(
+struct Runs {
     heap: Global,
-    judge: J,
-    scale: S,
-    run: &Run,
-    tally: &mut Tally,
-) -> Result<(), AllocError>
-where
-    S::Cost: Parts,
-{
-    let mut log = Vec::with_capacity(heap, run.room)?;
-    let room = log.capacity();
-    conduct(judge, scale, run.script.calls.as_slice(), &mut log);
-    tally.add_run(run.script.calls.len());
-    tally.expect(log.len() == run.script.answered.min(room));
-    follow(heap, &run.case, log.as_slice(), tally)
+    random: Random,
+    tally: Tally,
 }
 
-// One run in eight has too little room for its calls.
-fn draw_run(heap: Global, random: &mut Random, case: Case) -> Result<Run, AllocError> {
-    let length = random.below(300);
-    let script = write_script(heap, random, case.count, length)?;
-    let room = if random.small(8) == 0 {
-        script.calls.len() / 2
-    } else {
-        script.calls.len()
-    };
-    Ok(Run { case, script, room })
-}
+impl Runs {
+    // From 1 to 6, and more often a large one.
+    fn draw_count(&mut self) -> u8 {
+        let random = &mut self.random;
+        random.small(6).max(random.small(6)).saturating_add(1)
+    }
 
-// A table, and the number of the sheet.
-fn run_table(heap: Global, random: &mut Random, tally: &mut Tally) -> anyhow::Result<()> {
-    let count = draw_count(random);
-    let allowed = draw_sheets(heap, random, count)?;
-    let judge = table_of(heap, count, allowed.as_slice())?;
-    let first = random.below(64);
-    let case = Case {
-        count,
-        allowed,
-        first,
-        second: 0,
-    };
-    let run = draw_run(heap, random, case)?;
-    run_order(heap, judge, Number::new(first), &run, tally)?;
-    Ok(())
-}
+    // Each sheet of marks below the count with the same chance.
+    fn draw_sheets(&mut self, count: u8) -> Result<Vec<Sheet>, AllocError> {
+        let random = &mut self.random;
+        let seldom = random.below(6).saturating_add(1);
+        (0..=first_marks(count))
+            .filter(|_| random.below(seldom) == 0)
+            .collect(self.heap)
+    }
 
-// Two tables, and two numbers of which the first is compared before the second.
-fn run_both(heap: Global, random: &mut Random, tally: &mut Tally) -> anyhow::Result<()> {
-    let count = draw_count(random);
-    let wider = random.small(2).saturating_add(count);
-    let some = draw_sheets(heap, random, count)?;
-    let others = draw_sheets(heap, random, wider)?;
-    let judge = Both {
-        first: table_of(heap, count, some.as_slice())?,
-        second: table_of(heap, wider, others.as_slice())?,
-    };
-    let allowed = in_both(heap, some.as_slice(), others.as_slice())?;
-    let first = random.below(64);
-    let second = random.below(64);
-    let scale = FirstThen {
-        first: Number::new(first),
-        then: Number::new(second),
-    };
-    let case = Case {
-        count,
-        allowed,
-        first,
-        second,
-    };
-    let run = draw_run(heap, random, case)?;
-    run_order(heap, judge, scale, &run, tally)?;
-    Ok(())
+    // Conducts an order over the judge and the scale, and holds it against the case. One run in eight has too little room
+    // for its calls.
+    fn conduct<J: Judge + Drop, S: Scale + Drop>(
+        &mut self,
+        judge: J,
+        scale: S,
+        case: &Case,
+    ) -> Result<(), AllocError>
+    where
+        S::Cost: Into<Cost>,
+    {
+        let script = Script::draw(self.heap, &mut self.random, case.count)?;
+        let calls = script.calls.as_slice();
+        let share = if self.random.small(8) == 0 { 2 } else { 1 };
+        let mut log = Vec::with_capacity(self.heap, calls.len() / share)?;
+        let room = log.capacity();
+        conduct(judge, scale, calls, &mut log);
+        self.tally.add_run(calls.len());
+        self.tally.expect(log.len() == script.answered.min(room));
+        follow(self.heap, case, log.as_slice(), &mut self.tally)
+    }
+
+    // A table, and the number of the sheet.
+    fn run_table(&mut self) -> anyhow::Result<()> {
+        let count = self.draw_count();
+        let allowed = self.draw_sheets(count)?;
+        let judge = table_of(self.heap, count, allowed.as_slice())?;
+        let first = self.random.below(64);
+        let case = Case {
+            count,
+            allowed,
+            first,
+            second: 0,
+        };
+        self.conduct(judge, Number::new(first), &case)?;
+        Ok(())
+    }
+
+    // Two tables, and two numbers of which the first is compared before the second.
+    fn run_both(&mut self) -> anyhow::Result<()> {
+        let count = self.draw_count();
+        let wider = self.random.small(2).saturating_add(count);
+        let some = self.draw_sheets(count)?;
+        let others = self.draw_sheets(wider)?;
+        let judge = Both {
+            first: table_of(self.heap, count, some.as_slice())?,
+            second: table_of(self.heap, wider, others.as_slice())?,
+        };
+        let allowed = some
+            .iter()
+            .copied()
+            .filter(|sheet| others.contains(sheet))
+            .collect(self.heap)?;
+        let first = self.random.below(64);
+        let second = self.random.below(64);
+        let scale = FirstThen {
+            first: Number::new(first),
+            then: Number::new(second),
+        };
+        let case = Case {
+            count,
+            allowed,
+            first,
+            second,
+        };
+        self.conduct(judge, scale, &case)?;
+        Ok(())
+    }
 }
 
 // A hundred runs of each kind, with a line for every ten of each.
-pub fn run_many(rt: &HostRuntime, seed: u64, tally: &mut Tally) -> anyhow::Result<()> {
-    let mut random = Random::new(seed);
+pub fn run_many(rt: &HostRuntime, seed: u64) -> anyhow::Result<Tally> {
+    let heap = rt.alloc();
+    let mut runs = Runs {
+        heap,
+        random: Random::new(seed),
+        tally: Tally::new(heap),
+    };
     for number in 0..100u64 {
-        run_table(rt.alloc(), &mut random, tally)?;
-        run_both(rt.alloc(), &mut random, tally)?;
+        runs.run_table()?;
+        runs.run_both()?;
         if number % 10 == 9 {
-            tally.print(rt)?;
+            let tally = &runs.tally;
+            println!(rt; "{tally}")?;
         }
     }
-    Ok(())
+    Ok(runs.tally)
 }

@@ -1,8 +1,7 @@
 // Lists of calls, by chance.
-use crate::brute::all_sheets;
 use crate::random::Random;
 use orders::Call;
-use sheets::{Mark, Sheet};
+use sheets::{Mark, Sheet, first_marks, with_mark};
 use std::alloc::{AllocError, Global};
 
 #[derive(Clone, Copy)]
@@ -12,6 +11,89 @@ enum Stage {
     Settled,
 }
 
+impl Stage {
+    // The stage after the call.
+    fn after(self, call: Call) -> Stage {
+        match call {
+            Call::Seek => Stage::Seeking,
+            Call::Settle => Stage::Settled,
+            Call::Withdraw | Call::Reopen => Stage::Marking,
+            _ => self,
+        }
+    }
+}
+
+// Draws the calls of an order over sheets of marks below the count. The more undos, the fewer acts stand.
+#[derive(Drop)]
+struct Writer<'a> {
+    random: &'a mut Random,
+    count: u8,
+    undos: u8,
+    stage: Stage,
+}
+
+impl Writer<'_> {
+    // Now and then a mark that is not below the count.
+    fn draw_mark(&mut self) -> Mark {
+        if self.random.small(10) == 0 {
+            self.random.small(70).saturating_add(self.count)
+        } else {
+            self.random.small(self.count)
+        }
+    }
+
+    // Now and then a sheet with such a mark.
+    fn draw_sheet(&mut self) -> Sheet {
+        let sheet = self.random.next() & first_marks(self.count);
+        if self.random.small(10) == 0 {
+            with_mark(sheet, self.count)
+        } else {
+            sheet
+        }
+    }
+
+    fn marking_call(&mut self) -> Call {
+        match self.random.small(self.undos.saturating_add(10)) {
+            0 => Call::Pin(self.draw_mark()),
+            1 => Call::Bar(self.draw_mark()),
+            2..=7 => Call::Strike(self.draw_sheet()),
+            8 | 9 => Call::Seek,
+            _ => Call::Undo,
+        }
+    }
+
+    fn seeking_call(&mut self) -> Call {
+        match self.random.small(8) {
+            0..=2 => Call::Settle,
+            3 => Call::Withdraw,
+            _ => Call::Advance(u16::from(self.random.small(12))),
+        }
+    }
+
+    // A call that the stage has.
+    fn next_call(&mut self) -> Call {
+        let call = match self.stage {
+            Stage::Marking => self.marking_call(),
+            Stage::Seeking => self.seeking_call(),
+            Stage::Settled => Call::Reopen,
+        };
+        self.stage = self.stage.after(call);
+        call
+    }
+
+    // A call that the stage does not have.
+    fn foreign_call(&mut self) -> Call {
+        match (self.stage, self.random.small(2)) {
+            (Stage::Marking, 0) => Call::Settle,
+            (Stage::Marking, _) => Call::Reopen,
+            (Stage::Seeking, 0) => Call::Pin(0),
+            (Stage::Seeking, _) => Call::Seek,
+            (Stage::Settled, 0) => Call::Undo,
+            (Stage::Settled, _) => Call::Advance(1),
+        }
+    }
+}
+
 // A list of calls, and how many of them come before the first that its stage does not have.
 #[derive(Drop)]
 pub struct Script {
@@ -19,94 +101,22 @@ pub struct Script {
     pub answered: usize,
 }
 
-// Now and then a mark that is not below the count.
-fn draw_mark(random: &mut Random, count: u8) -> Mark {
-    if random.small(10) == 0 {
-        random.small(70).saturating_add(count)
-    } else {
-        random.small(count)
+impl Script {
+    // Fewer than 300 calls; now and then followed by one that the stage does not have, and two more.
+    pub fn draw(heap: Global, random: &mut Random, count: u8) -> Result<Script, AllocError> {
+        let length = random.below(300);
+        let undos = random.small(6);
+        let mut writer = Writer {
+            random,
+            count,
+            undos,
+            stage: Stage::Marking,
+        };
+        let mut calls: Vec<Call> = (0..length).map(|_| writer.next_call()).collect(heap)?;
+        let answered = calls.len();
+        if writer.random.small(4) == 0 {
+            calls.extend_from_slice(&[writer.foreign_call(), Call::Seek, Call::Undo])?;
+        }
+        Ok(Script { calls, answered })
     }
-}
-
-// Now and then a sheet with such a mark.
-fn draw_sheet(random: &mut Random, count: u8) -> Sheet {
-    let sheet = random.below(all_sheets(count));
-    if random.small(10) == 0 {
-        sheet | all_sheets(count)
-    } else {
-        sheet
-    }
-}
-
-// The more undos, the fewer acts stand.
-fn marking_call(random: &mut Random, count: u8, undos: u8) -> Call {
-    match random.small(undos.saturating_add(10)) {
-        0 => Call::Pin(draw_mark(random, count)),
-        1 => Call::Bar(draw_mark(random, count)),
-        2..=7 => Call::Strike(draw_sheet(random, count)),
-        8 | 9 => Call::Seek,
-        _ => Call::Undo,
-    }
-}
-
-fn seeking_call(random: &mut Random) -> Call {
-    match random.small(8) {
-        0 | 1 | 2 => Call::Settle,
-        3 => Call::Withdraw,
-        _ => Call::Advance(u16::from(random.small(12))),
-    }
-}
-
-fn next_call(random: &mut Random, stage: Stage, count: u8, undos: u8) -> Call {
-    match stage {
-        Stage::Marking => marking_call(random, count, undos),
-        Stage::Seeking => seeking_call(random),
-        Stage::Settled => Call::Reopen,
-    }
-}
-
-// A call that the stage does not have.
-fn foreign_call(random: &mut Random, stage: Stage) -> Call {
-    match (stage, random.small(2)) {
-        (Stage::Marking, 0) => Call::Settle,
-        (Stage::Marking, _) => Call::Reopen,
-        (Stage::Seeking, 0) => Call::Pin(0),
-        (Stage::Seeking, _) => Call::Seek,
-        (Stage::Settled, 0) => Call::Undo,
-        (Stage::Settled, _) => Call::Advance(1),
-    }
-}
-
-fn stage_after(stage: Stage, call: Call) -> Stage {
-    match call {
-        Call::Seek => Stage::Seeking,
-        Call::Settle => Stage::Settled,
-        Call::Withdraw => Stage::Marking,
-        Call::Reopen => Stage::Marking,
-        _ => stage,
-    }
-}
-
-// So many calls; now and then followed by one that the stage does not have, and two more.
-pub fn write_script(
-    heap: Global,
-    random: &mut Random,
-    count: u8,
-    length: u64,
-) -> Result<Script, AllocError> {
-    let undos = random.small(6);
-    let mut calls = Vec::new(heap);
-    let mut stage = Stage::Marking;
-    for _ in 0..length {
-        let call = next_call(random, stage, count, undos);
-        stage = stage_after(stage, call);
-        calls.push(call)?;
-    }
-    let answered = calls.len();
-    if random.small(4) == 0 {
-        calls.push(foreign_call(random, stage))?;
-        calls.push(Call::Seek)?;
-        calls.push(Call::Undo)?;
-    }
-    Ok(Script { calls, answered })
 }

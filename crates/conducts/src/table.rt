@@ -1,11 +1,13 @@
 // A judge that allows by a table.
 ghost use Rattle.std.specs.Prelude.{◌≡◌, ◌≤◌, true};
-ghost use Rattle.sheets.specs.Lists.{all, any};
+ghost use Rattle.std.specs.List.{list_all, list_any};
 ghost use Rattle.sheets.specs.Sheets.{width};
 ghost use Rattle.conducts.specs.Tables.{is_below, lies_within, table_of};
 ghost use Rattle.conducts.specs.Listed.{table_laws};
 
+use anyhow::Context;
 use sheets::{Judge, PartSheet, Sheet, WIDTH, within_count};
+use std::alloc::Global;
 
 // Allows exactly the listed sheets.
 #[derive(Drop)]
@@ -14,13 +16,13 @@ pub struct Table {
     listed: Vec<Sheet>,
     ghost some: { 1 ≤ count },
     ghost few: { count ≤ width },
-    ghost inside: { all (is_below count) listed.items ≡ true },
+    ghost inside: { list_all (is_below count) listed.items ≡ true },
 }
 
 impl Table {
     // None where the count is not from 1 to `WIDTH`, or a sheet has a mark that is not below it.
     pub fn new(count: u8, listed: Vec<Sheet>) -> Option<Table> {
-        if count >= 1 && count <= WIDTH && are_below(listed.as_slice(), count) {
+        if (1..=WIDTH).contains(&count) && are_below(listed.as_slice(), count) {
             Some(Table { count, listed })
         } else {
             None
@@ -28,16 +30,16 @@ impl Table {
     }
 }
 
+// The table of these sheets.
+pub fn table_of(heap: Global, count: u8, listed: &[Sheet]) -> anyhow::Result<Table> {
+    Table::new(count, Vec::from_slice(heap, listed)?).context("the table is refused")
+}
+
 // Each of the sheets has only marks below the count.
 fn are_below(listed: &[Sheet], count: u8) -> bool
-    ensures { result ≡ all (is_below count) listed.now }
+    ensures { result ≡ list_all (is_below count) listed.now }
 {
-    for sheet in listed {
-        if !within_count(*sheet, count) {
-            return false;
-        }
-    }
-    true
+    listed.iter().all(|sheet| within_count(*sheet, count))
 }
 
 // The sheet has every present mark and no absent one.
@@ -49,14 +51,11 @@ fn lies_within(sheet: Sheet, present: Sheet, absent: Sheet) -> bool
 
 // One of the sheets lies within the part-sheet of these marks.
 fn is_one_within(listed: &[Sheet], present: Sheet, absent: Sheet) -> bool
-    ensures { result ≡ any (lies_within present absent) listed.now }
+    ensures { result ≡ list_any (lies_within present absent) listed.now }
 {
-    for sheet in listed {
-        if lies_within(*sheet, present, absent) {
-            return true;
-        }
-    }
-    false
+    listed
+        .iter()
+        .any(|sheet| lies_within(*sheet, present, absent))
 }
 
 impl Judge for Table {

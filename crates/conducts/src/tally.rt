@@ -1,31 +1,51 @@
 // What was conducted, in numbers.
 use orders::Answer;
-use std::io;
+use std::alloc::{AllocError, Global};
+use std::collections::BTreeMap;
+use std::fmt::Formatter;
+use std::{fmt, io};
 
-#[derive(Clone, Copy)]
+// How many there were of each.
+#[derive(Drop)]
 pub struct Tally {
-    pub runs: u64,
-    pub calls: u64,
-    pub events: u64,
-    pub stands: u64,
-    // By the last digit of the refusal's number.
-    pub refused: [u64; 10],
-    pub moved: u64,
-    pub advances: u64,
-    pub steps: u64,
-    pub sheets: u64,
-    pub none: u64,
-    pub differences: u64,
+    runs: u64,
+    calls: u64,
+    events: u64,
+    stands: u64,
+    // By the refusal's number.
+    refused: BTreeMap<u8, u64>,
+    moved: u64,
+    advances: u64,
+    steps: u64,
+    sheets: u64,
+    none: u64,
+    differences: u64,
+}
+
+impl fmt::Display for Tally {
+    fn fmt<W: fmt::Write>(&self, f: &mut Formatter<W>) -> fmt::Result {
+        let Tally {
+            runs,
+            calls,
+            events,
+            differences,
+            ..
+        } = self;
+        write!(
+            f,
+            "{runs} runs: {calls} calls, {events} answered, {differences} differences"
+        )
+    }
 }
 
 impl Tally {
-    pub fn new() -> Tally {
+    pub fn new(heap: Global) -> Tally {
         Tally {
             runs: 0,
             calls: 0,
             events: 0,
             stands: 0,
-            refused: [0; 10],
+            refused: BTreeMap::new(heap),
             moved: 0,
             advances: 0,
             steps: 0,
@@ -40,16 +60,17 @@ impl Tally {
         self.calls = self.calls.wrapping_add(calls as u64);
     }
 
-    fn add_refusal(&mut self, number: u8) {
-        let digit = usize::from(number % 10);
-        self.refused[digit] = self.refused[digit].wrapping_add(1);
+    fn add_refusal(&mut self, number: u8) -> Result<(), AllocError> {
+        let times = self.refused.entry(number)?.or_insert(0);
+        *times = times.wrapping_add(1);
+        Ok(())
     }
 
-    pub fn add_answer<C: Copy>(&mut self, answer: Answer<C>) {
+    pub fn add_answer<C: Copy>(&mut self, answer: Answer<C>) -> Result<(), AllocError> {
         self.events = self.events.wrapping_add(1);
         match answer {
             Answer::Stands(_) => self.stands = self.stands.wrapping_add(1),
-            Answer::Refused(why) => self.add_refusal(why.number()),
+            Answer::Refused(why) => self.add_refusal(why.number())?,
             Answer::Moved => self.moved = self.moved.wrapping_add(1),
             Answer::Shown(progress) => {
                 self.advances = self.advances.wrapping_add(1);
@@ -58,6 +79,7 @@ impl Tally {
             Answer::Final(Some(_)) => self.sheets = self.sheets.wrapping_add(1),
             Answer::Final(None) => self.none = self.none.wrapping_add(1),
         }
+        Ok(())
     }
 
     pub fn expect(&mut self, is_right: bool) {
@@ -66,17 +88,7 @@ impl Tally {
         }
     }
 
-    pub fn print(&self, rt: &HostRuntime) -> io::Result<()> {
-        let Tally {
-            runs,
-            calls,
-            events,
-            differences,
-            ..
-        } = *self;
-        println!(rt; "{runs} runs: {calls} calls, {events} answered, {differences} differences")
-    }
-
+    // A line for each kind of answer, and for each number of a refusal.
     pub fn print_answers(&self, rt: &HostRuntime) -> io::Result<()> {
         let Tally {
             stands,
@@ -86,16 +98,12 @@ impl Tally {
             sheets,
             none,
             ..
-        } = *self;
+        } = self;
         println!(rt; "acts called or taken back: {stands}")?;
         println!(rt; "moves to another stage: {moved}")?;
         println!(rt; "advances: {advances}, with {steps} steps")?;
-        println!(rt; "settlings: {sheets} with a sheet, {none} with no sheet")
-    }
-
-    pub fn print_refusals(&self, rt: &HostRuntime) -> io::Result<()> {
-        for number in [21, 22, 24, 25, 26u8] {
-            let times = self.refused[usize::from(number % 10)];
+        println!(rt; "settlings: {sheets} with a sheet, {none} with no sheet")?;
+        for (number, times) in self.refused.iter() {
             println!(rt; "refused by {number}: {times}")?;
         }
         Ok(())

@@ -1,7 +1,8 @@
 // Every sheet of a small book, by the engine and by the second solver.
-use crate::solver::{sets, solve};
+use crate::solver::solve;
 use judges::{Verdict, sheet_verdict};
 use rulefile::RuleFile;
+use sheets::first_marks;
 use std::fmt;
 use std::fmt::Formatter;
 
@@ -9,30 +10,35 @@ use std::fmt::Formatter;
 pub const MOST_MARKS: u8 = 10;
 
 // How many sheets of a book got each verdict, and on how many the two solvers differ.
-#[derive(Clone, Copy)]
+#[derive(Clone, Copy, Default)]
 pub struct Tally {
-    pub lawful: u64,
-    pub broken: u64,
-    pub ungrounded: u64,
-    pub differ: u64,
+    lawful: u64,
+    broken: u64,
+    ungrounded: u64,
+    differ: u64,
 }
 
 impl Tally {
-    fn count(&mut self, verdict: Verdict) {
-        match verdict {
-            Verdict::Lawful => self.lawful = self.lawful.wrapping_add(1),
-            Verdict::Broken(_) => self.broken = self.broken.wrapping_add(1),
-            Verdict::Ungrounded(_) => self.ungrounded = self.ungrounded.wrapping_add(1),
-        }
+    // Adds one to the number of sheets of the verdict, or, with none, of those on which the solvers differ.
+    fn count(&mut self, verdict: Option<Verdict>) {
+        let number = match verdict {
+            Some(Verdict::Lawful) => &mut self.lawful,
+            Some(Verdict::Broken(_)) => &mut self.broken,
+            Some(Verdict::Ungrounded(_)) => &mut self.ungrounded,
+            None => &mut self.differ,
+        };
+        *number = number.wrapping_add(1);
     }
 }
 
 impl fmt::Display for Tally {
     fn fmt<W: fmt::Write>(&self, f: &mut Formatter<W>) -> fmt::Result {
-        let lawful = self.lawful;
-        let broken = self.broken;
-        let ungrounded = self.ungrounded;
-        let differ = self.differ;
+        let Tally {
+            lawful,
+            broken,
+            ungrounded,
+            differ,
+        } = *self;
         write!(
             f,
             "{lawful} lawful, {broken} broken, {ungrounded} ungrounded, {differ} differ"
@@ -41,18 +47,11 @@ impl fmt::Display for Tally {
 }
 
 pub fn try_book(file: &RuleFile) -> Tally {
-    let mut tally = Tally {
-        lawful: 0,
-        broken: 0,
-        ungrounded: 0,
-        differ: 0,
-    };
-    for sheet in 0..sets(file.count) {
+    let mut tally = Tally::default();
+    for sheet in 0..=first_marks(file.count) {
         let other = solve(file, sheet);
-        match sheet_verdict(file, sheet) {
-            Ok(verdict) if verdict == other => tally.count(verdict),
-            _ => tally.differ = tally.differ.wrapping_add(1),
-        }
+        let verdict = sheet_verdict(file, sheet).ok();
+        tally.count(verdict.filter(|verdict| *verdict == other));
     }
     tally
 }

@@ -3,53 +3,112 @@ use crate::costs::try_costs;
 use anyhow::anyhow;
 use rulefile::{RuleFile, read};
 use scales::Levels;
-use std::alloc::Global;
+use std::alloc::{AllocError, Global};
+use std::fmt;
+use std::fmt::Formatter;
 use std::rc::Rc;
 
 // A head with count 1 and an empty house sheet.
 const HEAD: [u8; 15] = [11, 0, 0, 0, 1, 0, 1, 0, 0, 0, 0, 0, 0, 0, 0];
 
-// A wish of the weight at the level, if mark 0 is there.
-fn add_wish(bytes: &mut Vec<u8>, level: u8, weight: i16) -> anyhow::Result<()> {
-    bytes.extend_from_slice(&[7, 0, 0, 0, 4, 0, level])?;
-    bytes.extend_from_slice(&weight.to_le_bytes())?;
-    bytes.extend_from_slice(&[1, 0])?;
-    Ok(())
+// So many wishes of the weight at each level from `low` to `high`, if mark 0 is there.
+#[derive(Clone, Copy)]
+struct Wishes {
+    times: u16,
+    weight: i16,
+    low: u8,
+    high: u8,
 }
 
-// So many wishes at each level from `low` to `high`.
-fn file_of(heap: Global, low: u8, high: u8, times: u16, weight: i16) -> anyhow::Result<RuleFile> {
-    let mut bytes = Vec::from_slice(heap, &HEAD)?;
-    for level in low..=high {
-        for _ in 0..times {
-            add_wish(&mut bytes, level, weight)?;
+const EXTREMES: [Wishes; 5] = [
+    Wishes {
+        times: 1,
+        weight: 10_000,
+        low: 1,
+        high: 8,
+    },
+    Wishes {
+        times: 1,
+        weight: -10_000,
+        low: 1,
+        high: 8,
+    },
+    Wishes {
+        times: 2,
+        weight: 7,
+        low: 3,
+        high: 3,
+    },
+    Wishes {
+        times: 256,
+        weight: 10_000,
+        low: 8,
+        high: 8,
+    },
+    Wishes {
+        times: 256,
+        weight: -10_000,
+        low: 1,
+        high: 1,
+    },
+];
+
+impl fmt::Display for Wishes {
+    fn fmt<W: fmt::Write>(&self, f: &mut Formatter<W>) -> fmt::Result {
+        let Wishes {
+            times,
+            weight,
+            low,
+            high,
+        } = *self;
+        write!(
+            f,
+            "{times} wishes of weight {weight} at levels {low} to {high}"
+        )
+    }
+}
+
+impl Wishes {
+    // The bytes of one of the wishes.
+    fn add_one(self, bytes: &mut Vec<u8>, level: u8) -> Result<(), AllocError> {
+        bytes.extend_from_slice(&[7, 0, 0, 0, 4, 0, level])?;
+        bytes.extend_from_slice(&self.weight.to_le_bytes())?;
+        bytes.extend_from_slice(&[1, 0])
+    }
+
+    // The file of the wishes.
+    fn file(self, heap: Global) -> anyhow::Result<RuleFile> {
+        let mut bytes = Vec::from_slice(heap, &HEAD)?;
+        for level in self.low..=self.high {
+            for _ in 0..self.times {
+                self.add_one(&mut bytes, level)?;
+            }
+        }
+        match read(heap, bytes.as_slice()) {
+            Ok(file) => Ok(file),
+            Err(_) => Err(anyhow!("the file is not read")),
         }
     }
-    match read(heap, bytes.as_slice()) {
-        Ok(file) => Ok(file),
-        Err(_) => Err(anyhow!("the file is not read")),
-    }
-}
 
-// What the sheet {0} costs, from level 8 down.
-fn print_costs(rt: &HostRuntime, low: u8, high: u8, times: u16, weight: i16) -> anyhow::Result<()> {
-    let heap = rt.alloc();
-    let file = Rc::new(heap, file_of(heap, low, high, times, weight)?)?;
-    let differ = try_costs(&file)?;
-    let cost = Levels::new(file).cost(1);
-    print!(rt; "{times} wishes of weight {weight} at levels {low} to {high}:")?;
-    for under in 0..8u8 {
-        let sum = cost.at(8 - under);
-        print!(rt; " {sum}")?;
+    // What the sheet {0} costs, from level 8 down.
+    fn print_costs(self, rt: &HostRuntime) -> anyhow::Result<()> {
+        let heap = rt.alloc();
+        let file = Rc::new(heap, self.file(heap)?)?;
+        let differ = try_costs(&file)?;
+        let cost = Levels::new(file).cost(1);
+        print!(rt; "{self}:")?;
+        for level in (1..=8u8).rev() {
+            let sum = cost.at(level);
+            print!(rt; " {sum}")?;
+        }
+        println!(rt; ", {differ} differ")?;
+        Ok(())
     }
-    println!(rt; ", {differ} differ")?;
-    Ok(())
 }
 
 pub fn run_extremes(rt: &HostRuntime) -> anyhow::Result<()> {
-    print_costs(rt, 1, 8, 1, 10_000)?;
-    print_costs(rt, 1, 8, 1, -10_000)?;
-    print_costs(rt, 3, 3, 2, 7)?;
-    print_costs(rt, 8, 8, 256, 10_000)?;
-    print_costs(rt, 1, 1, 256, -10_000)
+    for wishes in EXTREMES {
+        wishes.print_costs(rt)?;
+    }
+    Ok(())
 }

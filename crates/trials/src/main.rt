@@ -15,13 +15,30 @@ mod solver;
 use books::{MOST_MARKS, try_book};
 use costs::try_costs;
 use extremes::run_extremes;
-use outcomes::{Outcome, differs, outcome_of};
+use outcomes::{line_of, outcome_of, refusal_in};
 use rulefile::read;
-use std::fs;
+use std::fmt::Formatter;
 use std::rc::Rc;
+use std::{fmt, fs, io};
+
+// What came of a file: its line, whether it is refused, and whether that differs from its report.
+#[derive(Drop)]
+struct Trial {
+    line: String,
+    is_refused: bool,
+    is_different: bool,
+}
+
+impl fmt::Display for Trial {
+    fn fmt<W: fmt::Write>(&self, f: &mut Formatter<W>) -> fmt::Result {
+        let line = self.line.as_str();
+        let mark = if self.is_different { " DIFFERS" } else { "" };
+        write!(f, "{line}{mark}")
+    }
+}
 
 // How many files were read through, how many of them are refused, and how many differ from their report.
-#[derive(Drop)]
+#[derive(Clone, Copy, Default)]
 struct Files {
     files: u32,
     refused: u32,
@@ -29,62 +46,73 @@ struct Files {
 }
 
 impl Files {
-    fn add(&mut self, is_refused: bool, is_different: bool) {
+    fn add(&mut self, trial: &Trial) {
         self.files = self.files.saturating_add(1);
-        if is_refused {
+        if trial.is_refused {
             self.refused = self.refused.saturating_add(1);
         }
-        if is_different {
+        if trial.is_different {
             self.differ = self.differ.saturating_add(1);
         }
     }
 }
 
-fn run_trial(rt: &HostRuntime, name: &str, tally: &mut Files) -> anyhow::Result<()> {
+impl fmt::Display for Files {
+    fn fmt<W: fmt::Write>(&self, f: &mut Formatter<W>) -> fmt::Result {
+        let Files {
+            files,
+            refused,
+            differ,
+        } = *self;
+        write!(f, "{files} files, {refused} refused, {differ} differ")
+    }
+}
+
+// The bytes of the rule file of the name.
+fn read_bytes(rt: &HostRuntime, name: &str) -> io::Result<Vec<u8>> {
+    fs::read(rt, format!(in rt.alloc(); "{name}.bin")?)
+}
+
+fn run_trial(rt: &HostRuntime, name: &str) -> anyhow::Result<Trial> {
     let heap = rt.alloc();
-    let bytes = fs::read(rt, format!(in heap; "{name}.bin")?)?;
+    let bytes = read_bytes(rt, name)?;
     let report = fs::read_to_string(rt, format!(in heap; "{name}.out")?)?;
     let outcome = outcome_of(heap, bytes.as_slice())?;
-    let line = format!(in heap; "{outcome}")?;
-    let is_refused = matches!(outcome, Outcome::Refused(_));
-    let is_different = differs(line.as_str(), is_refused, report.as_str());
-    tally.add(is_refused, is_different);
-    let mark = if is_different { " DIFFERS" } else { "" };
-    println!(rt; "{name} {line}{mark}")?;
-    Ok(())
+    let line = line_of(heap, outcome)?;
+    let is_refused = outcome.is_err();
+    let refusal = is_refused.then_some(line.as_str());
+    let is_different = refusal_in(report.as_str()) != refusal;
+    Ok(Trial {
+        line,
+        is_refused,
+        is_different,
+    })
 }
 
 // Every sheet of the book, by the engine and by the second solver; files that are refused or have many marks are passed
 // over.
 fn run_book(rt: &HostRuntime, name: &str) -> anyhow::Result<()> {
     let heap = rt.alloc();
-    let bytes = fs::read(rt, format!(in heap; "{name}.bin")?)?;
-    if let Ok(file) = read(heap, bytes.as_slice()) {
-        if file.count <= MOST_MARKS {
-            let file = Rc::new(heap, file)?;
-            let tally = try_book(&file);
-            let differ = try_costs(&file)?;
-            println!(rt; "{name} sheets: {tally}; costs: {differ} differ")?;
-        }
+    let bytes = read_bytes(rt, name)?;
+    if let Ok(file) = read(heap, bytes.as_slice())
+        && file.count <= MOST_MARKS
+    {
+        let file = Rc::new(heap, file)?;
+        let tally = try_book(&file);
+        let differ = try_costs(&file)?;
+        println!(rt; "{name} sheets: {tally}; costs: {differ} differ")?;
     }
     Ok(())
 }
 
 fn run_files(rt: &HostRuntime, names: &str) -> anyhow::Result<()> {
-    let mut tally = Files {
-        files: 0,
-        refused: 0,
-        differ: 0,
-    };
+    let mut files = Files::default();
     for name in names.lines() {
-        run_trial(rt, name, &mut tally)?;
+        let trial = run_trial(rt, name)?;
+        println!(rt; "{name} {trial}")?;
+        files.add(&trial);
     }
-    let Files {
-        files,
-        refused,
-        differ,
-    } = tally;
-    println!(rt; "{files} files, {refused} refused, {differ} differ")?;
+    println!(rt; "{files}")?;
     Ok(())
 }
 
