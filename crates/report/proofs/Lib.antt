@@ -1,4 +1,4 @@
-pub mod Putting
+pub mod Pieces
 pub mod Texts
 pub mod Told
 pub mod Lengths

@@ -32,11 +32,22 @@ pub marks_left_all : (z : ℕ) → marks_left z 0 ≡ spaced decimal (marks z)
 unfolding marks_left marks
 marks_left_all z = refl
 
-pub marks_left_more : (z i : ℕ) → i < width → marks_left z i ≡ spaced decimal (filter (has z) (i ∷ [])) ++ marks_left z (i + 1)
-unfolding marks_left
-marks_left_more z i lt =
-    let e : width - i ≡ suc (width - (i + 1)) = omega arith in
-    ap (λ (k : ℕ). spaced decimal (filter (has z) (range_with_len i k))) e ∙ spaced_kept decimal (has z) i (range_with_len (i + 1) (width - (i + 1)))
+-- whether z has the mark i
+module _ (z i : ℕ) (lt : i < width) where
+  kept : (b : Bool) → has z i ≡ b → marks_left z i ≡ spaced decimal (cond b (i ∷ filter (has z) (range_with_len (i + 1) (width - (i + 1)))) (filter (has z) (range_with_len (i + 1) (width - (i + 1)))))
+  unfolding marks_left
+  kept b e =
+      let more : width - i ≡ suc (width - (i + 1)) = omega arith in
+      ap (λ (k : ℕ). spaced decimal (filter (has z) (range_with_len i k))) more
+      ∙ ap (λ (c : Bool). spaced decimal (cond c (i ∷ filter (has z) (range_with_len (i + 1) (width - (i + 1)))) (filter (has z) (range_with_len (i + 1) (width - (i + 1)))))) e
+
+  pub marks_left_there : has z i ≡ true → marks_left z i ≡ (32 ∷ []) ++ (decimal i ++ marks_left z (i + 1))
+  unfolding marks_left spaced
+  marks_left_there t = kept true t
+
+  pub marks_left_missing : has z i ≡ false → marks_left z i ≡ marks_left z (i + 1)
+  unfolding marks_left
+  marks_left_missing f = kept false f
 
 pub marks_left_none : (z i : ℕ) → width ≤ i → marks_left z i ≡ []
 unfolding marks_left spaced

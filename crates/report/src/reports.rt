@@ -1,9 +1,9 @@
 // The report on a file.
 ghost use Rattle.report.specs.Reports.{Reported};
 
-use crate::lines::{put_bad_file, put_log};
 use crate::refusals::{Refusal, ReportError};
 use crate::settling::settled_log;
+use crate::writing::Writer;
 use rulefile::{ReadError, read};
 use std::alloc::Global;
 
@@ -18,12 +18,14 @@ pub fn report(heap: Global, file: &[u8], out: &mut [u8]) -> Result<usize, Report
     if out.len() < LEAST_BUFFER {
         return Err(ReportError::Refused(Refusal::BufferSmall));
     }
+    let mut lines = Writer::new(out);
     match read(heap, file) {
         Ok(rules) => {
             let log = settled_log(heap, rules)?;
-            Ok(put_log(out, log.as_slice()))
+            lines.log(log.as_slice());
         }
-        Err(ReadError::Refused(bad)) => Ok(put_bad_file(out, bad)),
-        Err(ReadError::Memory) => Err(ReportError::Memory),
+        Err(ReadError::Refused(bad)) => lines.bad_file(bad),
+        Err(ReadError::Memory) => return Err(ReportError::Memory),
     }
+    Ok(lines.len())
 }

@@ -1,45 +1,59 @@
-// Texts and numbers, written into a buffer from a place on. Each function returns the place after what it wrote.
-ghost use Rattle.std.specs.Prelude.{◌≡◌, ◌+◌, ◌<◌, decimal};
+// Texts and numbers, written into a buffer one behind another.
+ghost use Rattle.std.specs.Prelude.{◌≡◌, decimal};
 ghost use Rattle.std.specs.Fmt.{signed_decimal};
-ghost use Rattle.report.specs.Writing.{Fits, Puts};
 
-pub(crate) fn put_text(out: &mut [u8], at: usize, text: &[u8]) -> usize
-    requires { Fits out.old at text.now }
-    ensures { Puts out.old at text.now out.new result }
-{
-    let end = at + text.len();
-    out[at..end].copy_from_slice(text);
-    end
+// A buffer, and how many bytes at its front are written.
+#[derive(Drop)]
+pub(crate) struct Writer<'a> {
+    out: &'a mut [u8],
+    len: usize,
 }
 
-// The digit of a number below ten.
-fn digit(n: u32) -> u8
-    requires { n < 10 }
-    ensures { result ≡ 48 + n }
-{
-    b'0' + n as u8
-}
+impl<'a> Writer<'a> {
+    ghost use Rattle.report.specs.Writing.{Starts, Fits, Writes};
 
-// The number in decimal: what its tenth is written as, and its last digit.
-pub(crate) fn put_number(out: &mut [u8], at: usize, n: u32) -> usize
-    requires { Fits out.old at (decimal n) }
-    ensures { Puts out.old at (decimal n) out.new result }
-{
-    if n < 10 {
-        return put_text(out, at, &[digit(n)]);
+    // Nothing is written.
+    pub(crate) fn new(out: &'a mut [u8]) -> Writer<'a>
+        ensures { Starts out.entry result }
+    {
+        Writer { out, len: 0 }
     }
-    let next = put_number(out, at, n / 10);
-    put_text(out, next, &[digit(n % 10)])
-}
 
-// The number in decimal, with `-` before a negative one.
-pub(crate) fn put_signed(out: &mut [u8], at: usize, n: i32) -> usize
-    requires { Fits out.old at (signed_decimal n) }
-    ensures { Puts out.old at (signed_decimal n) out.new result }
-{
-    if n >= 0 {
-        return put_number(out, at, n as u32);
+    // How many bytes are written.
+    pub(crate) fn len(&self) -> usize
+        ensures { result ≡ self.now.len }
+    {
+        self.len
     }
-    let next = put_text(out, at, b"-");
-    put_number(out, next, n.unsigned_abs())
+
+    pub(crate) fn text(&mut self, text: &[u8])
+        requires { Fits self.old text.now }
+        ensures { Writes self.old text.now self.new }
+    {
+        let end = self.len + text.len();
+        self.out[self.len..end].copy_from_slice(text);
+        self.len = end;
+    }
+
+    // The number in decimal: what its tenth is written as, and its last digit.
+    pub(crate) fn number(&mut self, n: u32)
+        requires { Fits self.old (decimal n) }
+        ensures { Writes self.old (decimal n) self.new }
+    {
+        if n >= 10 {
+            self.number(n / 10);
+        }
+        self.text(&[b'0' + (n % 10) as u8]);
+    }
+
+    // The number in decimal, with `-` before a negative one.
+    pub(crate) fn signed(&mut self, n: i32)
+        requires { Fits self.old (signed_decimal n) }
+        ensures { Writes self.old (signed_decimal n) self.new }
+    {
+        if n < 0 {
+            self.text(b"-");
+        }
+        self.number(n.unsigned_abs());
+    }
 }
