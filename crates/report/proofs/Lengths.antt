@@ -7,7 +7,7 @@ use Rattle.std.proofs.lemmas.Fmt.{length-decimal-le, length_signed_le}
 use Rattle.std.proofs.lemmas.List.{length-append, length-map}
 use Rattle.std.proofs.lemmas.Int.{ints}
 use Rattle.std.proofs.lemmas.Bool.{and_parts}
-use Rattle.sheets.specs.Lists.{all}
+use Rattle.std.specs.List.{list_all}
 use Rattle.sheets.specs.Sheets.{width, has}
 use Rattle.sheets.specs.Literals.{holds}
 use Rattle.rulefile.specs.declared.records.Act.{Act}
@@ -147,7 +147,7 @@ module _ (z n : ℕ) where
   sum_bounds : (ws : List Wish) → (neg_ℤ (pos (10000 * length ws)) ≤ℤ sum ws) × (sum ws ≤ℤ pos (10000 * length ws))
   sum_bounds [] = (omega (arith, ints), omega (arith, ints))
   sum_bounds (w ∷ ws) =
-      let first = part_bounds w (eqb w.level n) (all (holds z) (wish_of w).literals) in
+      let first = part_bounds w (eqb w.level n) (list_all (holds z) (wish_of w).literals) in
       let rest = sum_bounds ws in
       (omega (arith, ints, first.0, rest.0), omega (arith, ints, first.1, rest.1))
 
