@@ -2,25 +2,15 @@
 use Rattle.std.proofs.Common.{◌≡◌, ℕ, zero, suc, ◌-◌, ◌<◌, ◌≤◌, true, false, eqb, List, [], ◌∷◌, length, IsErrAnd, MatchResult, Ok, Err, Result, sym, refl, subst, arith}
 use Rattle.std.proofs.lemmas.Bool.{lt-ltb, le-ltb, eqb-true, eqb-false}
 use Rattle.rulefile.specs.declared.refusals.Refusal.{Refusal}
-use Rattle.rulefile.specs.declared.refusals.Refusal.TheVariants.{HeadMisplaced, FileTooLong}
-use Rattle.rulefile.specs.declared.records.Kind.{Kind}
-use Rattle.rulefile.specs.declared.records.Kind.TheVariants.{Head, Rule, Clause, Wish, Act}
+use Rattle.rulefile.specs.declared.refusals.Refusal.TheVariants.{FileTooLong}
 use Rattle.rulefile.specs.Model.{FileModel}
 use Rattle.rulefile.specs.Parser.{Parse, Parser, took, fails}
 use Rattle.rulefile.specs.declared.refusals.BadFile.{BadFile}
-use Rattle.rulefile.specs.Format.{first_body, first, later, cut, adding, room_at, whole, bad, records, decode}
+use Rattle.rulefile.specs.Format.{first, later, cut, adding, room_at, whole, bad, records, decode}
 use Rattle.rulefile.specs.Answers.{Faults, located_at, Reads}
 use Rattle.rulefile.specs.declared.refusals.Fault.{Fault}
 use Rattle.rulefile.specs.declared.refusals.ReadError.{ReadError}
 use Rattle.rulefile.specs.declared.refusals.Fault.TheVariants.{Bad, Memory}
-
-pub no_head : (k : Kind) (bs : List ℕ) → (k ≡ Head → ⊥) → first_body k bs ≡ fails HeadMisplaced
-unfolding first_body
-no_head Head bs h = absurd (h refl)
-no_head Rule bs h = refl
-no_head Clause bs h = refl
-no_head Wish bs h = refl
-no_head Act bs h = refl
 
 pub adding_made : {A : Type 0} (n : ℕ) (p : Parser A) (put : A → FileModel) (bs rest : List ℕ) (x : A) (g : FileModel) → Ok tt ≡ room_at n → p bs ≡ took x rest → put x ≡ g → adding n p put bs ≡ took g rest
 adding_made n p put bs rest x g e f h = rw (← e, f, h)
