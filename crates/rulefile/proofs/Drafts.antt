@@ -68,13 +68,14 @@ pub read_fault : {d : Result FileModel BadFile} {p : Parse FileModel} (f : Fault
 read_fault (Bad why) offset e g = g why e
 read_fault Memory offset e g = tt
 
--- what `map_err` has turned into an error, and what it has left
-pub turned : {X : Type 0} (A : X → Type 0) (B : Fault → Type 0) (L : Fault → ReadError → Type 0) (r : Result X Fault) (s : Result X ReadError) (e : ReadError)
+-- where `map_err` answers an error, it made that of a fault
+pub map_err_failed : {X : Type 0} (A : X → Type 0) (B : Fault → Type 0) (L : Fault → ReadError → Type 0) (r : Result X Fault) (s : Result X ReadError) (e : ReadError)
     → s ≡ Err e → MatchResult r A B → MatchResult r (λ x. s ≡ Ok x) (λ f. IsErrAnd s (L f)) → (f : Fault) × B f × L f e
-turned A B L (Ok x) s e is a m = absurd (cc)
-turned A B L (Err f) s e is a m = (f, a, subst (λ q. IsErrAnd q (L f)) is m)
+map_err_failed A B L (Ok x) s e is a m = absurd (cc)
+map_err_failed A B L (Err f) s e is a m = (f, a, subst (λ q. IsErrAnd q (L f)) is m)
 
-pub left : {X : Type 0} (A : X → Type 0) (B : Fault → Type 0) (L : Fault → ReadError → Type 0) (r : Result X Fault) (s : Result X ReadError) (y : X)
+-- where it answers a value, that came with no fault
+pub map_err_kept : {X : Type 0} (A : X → Type 0) (B : Fault → Type 0) (L : Fault → ReadError → Type 0) (r : Result X Fault) (s : Result X ReadError) (y : X)
     → s ≡ Ok y → MatchResult r A B → MatchResult r (λ x. s ≡ Ok x) (λ f. IsErrAnd s (L f)) → A y
-left A B L (Ok x) s y is a m = subst A (let z : x ≡ y = cc in z) a
-left A B L (Err f) s y is a m = absurd (subst (λ q. IsErrAnd q (L f)) is m)
+map_err_kept A B L (Ok x) s y is a m = subst A (let z : x ≡ y = cc in z) a
+map_err_kept A B L (Err f) s y is a m = absurd (subst (λ q. IsErrAnd q (L f)) is m)
