@@ -2,25 +2,15 @@
 use Rattle.std.proofs.Common.{◌≡◌, ℕ, zero, suc, ◌-◌, ◌<◌, ◌≤◌, true, false, eqb, List, [], ◌∷◌, length, IsErrAnd, MatchResult, Ok, Err, Result, sym, refl, subst, arith}
 use Rattle.std.proofs.lemmas.Bool.{lt-ltb, le-ltb, eqb-true, eqb-false}
 use Rattle.rulefile.specs.declared.refusals.Refusal.{Refusal}
-use Rattle.rulefile.specs.declared.refusals.Refusal.TheVariants.{HeadMisplaced, FileTooLong}
-use Rattle.rulefile.specs.declared.records.Kind.{Kind}
-use Rattle.rulefile.specs.declared.records.Kind.TheVariants.{Head, Rule, Clause, Wish, Act}
+use Rattle.rulefile.specs.declared.refusals.Refusal.TheVariants.{FileTooLong}
 use Rattle.rulefile.specs.Model.{FileModel}
 use Rattle.rulefile.specs.Parser.{Parse, Parser, took, fails}
 use Rattle.rulefile.specs.declared.refusals.BadFile.{BadFile}
-use Rattle.rulefile.specs.Format.{first_body, first, later, cut, adding, room_at, whole, bad, records, decode}
+use Rattle.rulefile.specs.Format.{first, later, cut, adding, room_at, whole, bad, records, decode}
 use Rattle.rulefile.specs.Answers.{Faults, located_at, Reads}
 use Rattle.rulefile.specs.declared.refusals.Fault.{Fault}
 use Rattle.rulefile.specs.declared.refusals.ReadError.{ReadError}
 use Rattle.rulefile.specs.declared.refusals.Fault.TheVariants.{Bad, Memory}
-
-pub no_head : (k : Kind) (bs : List ℕ) → (k ≡ Head → ⊥) → first_body k bs ≡ fails HeadMisplaced
-unfolding first_body
-no_head Head bs h = absurd (h refl)
-no_head Rule bs h = refl
-no_head Clause bs h = refl
-no_head Wish bs h = refl
-no_head Act bs h = refl
 
 pub adding_made : {A : Type 0} (n : ℕ) (p : Parser A) (put : A → FileModel) (bs rest : List ℕ) (x : A) (g : FileModel) → Ok tt ≡ room_at n → p bs ≡ took x rest → put x ≡ g → adding n p put bs ≡ took g rest
 adding_made n p put bs rest x g e f h = rw (← e, f, h)
@@ -78,13 +68,14 @@ pub read_fault : {d : Result FileModel BadFile} {p : Parse FileModel} (f : Fault
 read_fault (Bad why) offset e g = g why e
 read_fault Memory offset e g = tt
 
--- what `map_err` has turned into an error, and what it has left
-pub turned : {X : Type 0} (A : X → Type 0) (B : Fault → Type 0) (L : Fault → ReadError → Type 0) (r : Result X Fault) (s : Result X ReadError) (e : ReadError)
+-- where `map_err` answers an error, it made that of a fault
+pub map_err_failed : {X : Type 0} (A : X → Type 0) (B : Fault → Type 0) (L : Fault → ReadError → Type 0) (r : Result X Fault) (s : Result X ReadError) (e : ReadError)
     → s ≡ Err e → MatchResult r A B → MatchResult r (λ x. s ≡ Ok x) (λ f. IsErrAnd s (L f)) → (f : Fault) × B f × L f e
-turned A B L (Ok x) s e is a m = absurd (cc)
-turned A B L (Err f) s e is a m = (f, a, subst (λ q. IsErrAnd q (L f)) is m)
+map_err_failed A B L (Ok x) s e is a m = absurd (cc)
+map_err_failed A B L (Err f) s e is a m = (f, a, subst (λ q. IsErrAnd q (L f)) is m)
 
-pub left : {X : Type 0} (A : X → Type 0) (B : Fault → Type 0) (L : Fault → ReadError → Type 0) (r : Result X Fault) (s : Result X ReadError) (y : X)
+-- where it answers a value, that came with no fault
+pub map_err_kept : {X : Type 0} (A : X → Type 0) (B : Fault → Type 0) (L : Fault → ReadError → Type 0) (r : Result X Fault) (s : Result X ReadError) (y : X)
     → s ≡ Ok y → MatchResult r A B → MatchResult r (λ x. s ≡ Ok x) (λ f. IsErrAnd s (L f)) → A y
-left A B L (Ok x) s y is a m = subst A (let z : x ≡ y = cc in z) a
-left A B L (Err f) s y is a m = absurd (subst (λ q. IsErrAnd q (L f)) is m)
+map_err_kept A B L (Ok x) s y is a m = subst A (let z : x ≡ y = cc in z) a
+map_err_kept A B L (Err f) s y is a m = absurd (subst (λ q. IsErrAnd q (L f)) is m)

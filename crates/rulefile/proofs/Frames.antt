@@ -2,7 +2,7 @@
 use Rattle.std.proofs.Common.{◌≡◌, ℕ, ◌+◌, ◌-◌, ◌<◌, ◌≤◌, true, false, ◌&&◌, leb, List, length, take, drop, sym, ap, ◌∙◌, arith, length-drop}
 use Rattle.std.proofs.lemmas.Bool.{le-leb, lt-leb, leb-true, and_parts}
 use Rattle.std.proofs.lemmas.List.{take-take, drop-take, drop-drop}
-use Rattle.rulefile.specs.declared.refusals.Refusal.TheVariants.{RecordCut, LengthRange, LengthPastEnd}
+use Rattle.rulefile.specs.declared.refusals.Refusal.TheVariants.{RecordCut, LengthRange}
 use Rattle.rulefile.specs.Parser.{took, fails, little}
 use Rattle.rulefile.specs.Format.{cut}
 
@@ -16,12 +16,6 @@ cut_short xs h = rw (lt-leb 4 (length xs) h)
 pub cut_range : (xs : List ℕ) (n : ℕ) → 4 ≤ length xs → little (take 4 xs) ≡ n → (leb 2 n && leb n 1024) ≡ false → cut xs ≡ fails LengthRange
 unfolding cut
 cut_range xs n h e t = rw (le-leb 4 (length xs) h, e, t)
-
-pub cut_past : (xs : List ℕ) (n : ℕ) → 4 ≤ length xs → little (take 4 xs) ≡ n → (leb 2 n && leb n 1024) ≡ true → length xs - 4 < n → cut xs ≡ fails LengthPastEnd
-unfolding cut
-cut_past xs n h e t l =
-    let d : length (drop 4 xs) < n = simp length-drop (omega arith) in
-    rw (le-leb 4 (length xs) h, e, t, lt-leb n (length (drop 4 xs)) d)
 
 pub cut_good : (xs : List ℕ) (n : ℕ) → 4 ≤ length xs → little (take 4 xs) ≡ n → (leb 2 n && leb n 1024) ≡ true → 2 ≤ n → n ≤ length xs - 4 →
     cut xs ≡ took (little (take 2 (drop 4 xs)), take (n - 2) (drop 6 xs)) (drop (n - 2) (drop 6 xs))

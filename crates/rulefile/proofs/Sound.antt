@@ -1,8 +1,8 @@
 -- What a parser that succeeds has found.
-use Rattle.std.proofs.Common.{◌≡◌, ℕ, zero, suc, ◌-◌, ◌%◌, ◌^◌, ◌<◌, ◌≤◌, Bool, true, false, cond, ◌&&◌, ltb, leb, List, [], ◌∷◌, ◌++◌, length, take, drop, sym, refl, ap, ◌∙◌, subst, append_assoc, arith}
+use Rattle.std.proofs.Common.{◌≡◌, ℕ, zero, suc, ◌-◌, ◌%◌, ◌^◌, ◌<◌, ◌≤◌, Bool, true, false, cond, ◌&&◌, ltb, leb, List, [], ◌∷◌, ◌++◌, map, length, take, drop, sym, refl, ap, ◌∙◌, subst, append_assoc, arith}
 use Rattle.std.specs.List.{AllByRecursion}
 use Rattle.std.proofs.lemmas.Bool.{ltb-true, leb-true, and_parts}
-use Rattle.std.proofs.lemmas.List.{take-append-drop, length-take-le, length-drop}
+use Rattle.std.proofs.lemmas.List.{take-append-drop, length-take-le, length-drop, length-map}
 use Rattle.sheets.specs.Sheets.{width}
 use Rattle.sheets.specs.declared.literals.Literal.{Literal}
 use Rattle.rulefile.specs.declared.refusals.Refusal.{Refusal}
@@ -97,12 +97,18 @@ gives_length {A} p (suc n) bs =
     let P : List A → Type 0 = λ xs. length xs ≡ suc n in
     gives_then P (p bs) _ (λ x rest. gives_after (λ xs. length xs ≡ n) P (times n p rest) _ (gives_length p n rest) (λ xs _ h. ap suc h))
 
--- as many things as a number in its range says
+-- a number that is read is in its range
 pub in_range : {n : ℕ} {rest : List ℕ} (low high : ℕ) (bs : List ℕ) → within low high bs ≡ took n rest → (low ≤ n) × (n ≤ high)
 in_range low high bs e = given (λ n. (low ≤ n) × (n ≤ high)) e (gives_within low high bs)
 
-pub as_many : {A : Type 0} {rest : List ℕ} {xs : List A} (n : ℕ) (p : Parser A) (bs : List ℕ) → times n p bs ≡ took xs rest → length xs ≡ n
-as_many n p bs e = given (λ xs. length xs ≡ n) e (gives_length p n bs)
+-- as many things are read as a number in its range says; m takes a thing to what it says
+pub counted_in_range : {X A : Type 0} {n : ℕ} {mid rest : List ℕ} (low high : ℕ) (bs cs : List ℕ) (p : Parser A) (m : X → A) (xs : List X)
+    → within low high bs ≡ took n mid → times n p cs ≡ took (map m xs) rest → (low ≤ length xs) × (length xs ≤ high)
+counted_in_range {n = n} low high bs cs p m xs e f =
+    let range = in_range low high bs e in
+    let as_many : length (map m xs) ≡ n = given (λ ys. length ys ≡ n) f (gives_length p n cs) in
+    let as_long = length-map xs m in
+    (omega arith, omega arith)
 
 -- ---- marks below the count
 

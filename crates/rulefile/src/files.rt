@@ -8,7 +8,7 @@ use crate::wishes::Wish;
 use sheets::Sheet;
 
 // The count of marks, the house sheet, and what the later records say, in file order; `order` has their kinds.
-#[derive(Drop)]
+#[derive(Debug, PartialEq, Eq, Drop)]
 pub struct RuleFile {
     pub count: u8,
     pub house: Sheet,

@@ -20,6 +20,7 @@ fn length_fits(n: u32) -> bool
 }
 
 // Why fewer than six bytes are no record.
+#[tactic(auto, using(crate::proofs::Fields::little_4), unfolding(crate::specs::Format::cut))]
 fn short(bytes: &[u8]) -> Refusal
     requires { length bytes.now < 6 }
     ensures { cut_spec bytes.now ≡ parsed_record (Err result) }
@@ -34,6 +35,7 @@ fn short(bytes: &[u8]) -> Refusal
     }
 }
 
+#[tactic(auto, using(crate::proofs::Fields::little_4), unfolding(crate::specs::Format::cut))]
 pub(crate) fn cut(bytes: &[u8]) -> Result<Record<'_>, Refusal>
     ensures value { cut_spec bytes.now ≡ parsed_record result }
     ensures shorter { Shorter (length bytes.now) result }

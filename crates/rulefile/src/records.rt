@@ -43,7 +43,7 @@ pub struct Head {
 }
 
 // The head holds, or a constraint of the body does not.
-#[derive(Drop)]
+#[derive(Debug, PartialEq, Eq, Drop)]
 pub struct Rule {
     pub head: Constraint,
     pub body: Vec<Constraint>,
@@ -51,7 +51,7 @@ pub struct Rule {
 }
 
 // One of the literals holds.
-#[derive(Drop)]
+#[derive(Debug, PartialEq, Eq, Drop)]
 pub struct Clause {
     pub literals: Vec<Literal>,
     ghost few: { vec_len literals ≤ 32 },

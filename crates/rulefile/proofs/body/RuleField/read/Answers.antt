@@ -1,11 +1,9 @@
 use Rattle.std.proofs.Common.{vec_items, arith}
-use Rattle.std.proofs.lemmas.List.{length-map}
 use Rattle.rulefile.specs.Model.{constraint_of}
-use Rattle.rulefile.proofs.Sound.{in_range, as_many}
+use Rattle.rulefile.proofs.Sound.{counted_in_range}
 use Rattle.rulefile.proofs.body.RuleField.read.Goals as goal
 
 pub invariant_of-result : goal.invariant_of-result
 invariant_of-result c =
-    let many = as_many _ _ _ c.in_ok-constraints.ensures.parses in
-    let range = in_range 0 8 _ c.in_ok-n.ensures.parses in
-    record { few = omega (arith, c.in_ok-constraints.constraints.ok.0, length-map (vec_items c.in_ok-constraints.constraints) constraint_of) }
+    let count = counted_in_range 0 8 _ _ _ constraint_of (vec_items c.in_ok-constraints.constraints) c.in_ok-n.ensures.parses c.in_ok-constraints.ensures.parses in
+    record { few = omega (arith, c.in_ok-constraints.constraints.ok.0) }
