@@ -6,7 +6,7 @@ use Rattle.std.proofs.lemmas.Bool.{both_ways, cases_lt, cases_Bool, and_parts, a
 use Rattle.sheets.specs.Sheets.{width, has, others, MarksBelow, Part, Within, Full}
 use Rattle.sheets.specs.Bits.{has_high, has_and, has_or, has_first, below_marks, marks_below, same_marks}
 use Rattle.sheets.specs.Parts.{others_word, has_others, others_apart, deciding_apart}
-use Rattle.orders.specs.declared.search.Search.{Search}
+use Rattle.orders.specs.Search.{Search}
 use Rattle.orders.specs.Places.{LiesBefore}
 use Rattle.orders.proofs.Dismissals.{Well, Agrees, Precedes}
 use Rattle.orders.specs.Searches.{first_marks, decided_at, present_at, absent_at}

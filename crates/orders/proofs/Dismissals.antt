@@ -1,10 +1,10 @@
 -- Dismissing a place: as the code does it, and which sheets then lie before the next place.
-use Rattle.std.proofs.Common.{◌≡◌, ℕ, zero, suc, ◌+◌, ◌-◌, ◌^◌, ◌<◌, ◌≤◌, true, false, not, ◌⊎◌, Option, sym, refl, ap, ◌∙◌, inl, inr, ⊎_elim, arith}
+use Rattle.std.proofs.Common.{◌≡◌, ℕ, zero, suc, ◌+◌, ◌-◌, ◌^◌, ◌<◌, ◌≤◌, true, false, not, ◌⊎◌, Option, sym, refl, ap, ◌∙◌, inl, inr, ⊎_elim, arith, ap₂, add-one}
 use lib.Bits.{bit_or}
 use Rattle.std.proofs.lemmas.Bool.{both_ways, cases_lt, cases_Bool, cond_both, cond-true, cond-false}
 use Rattle.sheets.specs.Sheets.{has}
 use Rattle.sheets.specs.Bits.{has_plus_at, lacks_top}
-use Rattle.orders.specs.declared.search.Search.{Search}
+use Rattle.orders.specs.Search.{Search}
 use Rattle.orders.specs.Searches.{dismissed}
 use Rattle.orders.proofs.Powers.{has_plus, has_minus, minus_below, plus_below, or_plus}
 
@@ -39,20 +39,14 @@ turned k p held = record { decided = suc k; present = p + 2 ^ k; held = held; fi
 
 -- ---- by the last decision, as the code has it
 
-module _ (p : ℕ) (held : Option ℕ) where
-  pub dismissed_present : (k : ℕ) → 0 < k → has p (k - 1) ≡ true → dismissed (k - 1) (p - 2 ^ (k - 1)) held ≡ dismissed k p held
-  dismissed_present zero pos e = absurd (omega arith)
-  dismissed_present (suc k) pos e =
-      let q : suc k - 1 ≡ k = omega arith in
-      ap (λ i. dismissed i (p - 2 ^ i) held) q ∙ sym (cond-true (has p k) (dismissed k (p - 2 ^ k) held) (turned k p held) (ap (has p) (sym q) ∙ e))
+module _ (p last : ℕ) (held : Option ℕ) where
+  pub dismissed_present : has p last ≡ true → dismissed last (p - 2 ^ last) held ≡ dismissed (suc last) p held
+  dismissed_present e = sym (cond-true (has p last) (dismissed last (p - 2 ^ last) held) (turned last p held) e)
 
-  pub dismissed_absent : (k : ℕ) → 0 < k → has p (k - 1) ≡ false → dismissed k p held ≡ record { decided = k; present = bit_or p (2 ^ (k - 1)); held = held; finished = false }
-  dismissed_absent zero pos e = absurd (omega arith)
-  dismissed_absent (suc k) pos e =
-      let q : suc k - 1 ≡ k = omega arith in
-      let f : has p k ≡ false = ap (has p) (sym q) ∙ e in
-      cond-false (has p k) (dismissed k (p - 2 ^ k) held) (turned k p held) f
-      ∙ ap (λ y. record { decided = suc k; present = y; held = held; finished = false }) (sym (or_plus k p f) ∙ ap (λ i. bit_or p (2 ^ i)) (sym q))
+  pub dismissed_absent : has p last ≡ false → record { decided = last + 1; present = bit_or p (2 ^ last); held = held; finished = false } ≡ dismissed (suc last) p held
+  dismissed_absent e =
+      ap₂ (λ k q. record { decided = k; present = q; held = held; finished = false }) (add-one last) (or_plus last p e)
+      ∙ sym (cond-false (has p last) (dismissed last (p - 2 ^ last) held) (turned last p held) e)
 
 -- ---- what it keeps
 
@@ -61,6 +55,9 @@ dismissed_held zero p held = refl
 dismissed_held (suc k) p held =
     cond_both (has p k) (dismissed k (p - 2 ^ k) held) (turned k p held) (λ y. y.held ≡ held)
     (λ e. dismissed_held k (p - 2 ^ k) held) (λ e. refl)
+
+pub next_held : (k p : ℕ) (held : Option ℕ) (x : Search) → x ≡ dismissed k p held → held ≡ x.held
+next_held k p held x e = sym (ap (λ y. y.held) e ∙ dismissed_held k p held)
 
 pub dismissed_few : (k p : ℕ) (held : Option ℕ) → (dismissed k p held).decided ≤ k
 dismissed_few zero p held = omega arith

@@ -5,7 +5,7 @@ use Rattle.sheets.specs.Sheets.{has, MarksBelow, Part, Within, Full, Earlier}
 use Rattle.sheets.specs.Judging.{Judging, JudgeLaws}
 use Rattle.sheets.specs.Scaling.{Scaling, ScaleLaws}
 use Rattle.sheets.specs.Bits.{has_high, marks_below, same_marks}
-use Rattle.orders.specs.declared.search.Search.{Search}
+use Rattle.orders.specs.Search.{Search}
 use Rattle.orders.specs.Searches.{start, present_at, absent_at, dismissed, too_dear, dead_at, dear_at, dismisses, stepped, Steps, none, more, Ended, priced}
 use Rattle.orders.specs.Best.{Best}
 use Rattle.orders.proofs.Dismissals.{Well, Agrees, Precedes, Past, UpTo, dismissed_held, dismissed_well, precedes_on, past_from, past_to}

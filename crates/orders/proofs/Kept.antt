@@ -10,7 +10,7 @@ use Rattle.orders.specs.declared.calls.Progress.{Progress}
 use Rattle.orders.specs.declared.calls.Answer.{Answer}
 use Rattle.orders.specs.declared.calls.Answer.TheVariants.{Shown, Final}
 use Rattle.orders.specs.declared.calls.Event.{Event}
-use Rattle.orders.specs.declared.search.Search.{Search}
+use Rattle.orders.specs.Search.{Search}
 use Rattle.orders.specs.Acts.{in_range, under}
 use Rattle.orders.specs.Searches.{start, present_at, absent_at, Steps, none, priced}
 use Rattle.orders.specs.Places.{LiesBefore, Before}

@@ -7,7 +7,7 @@ use Rattle.sheets.specs.Sheets.{has}
 use Rattle.sheets.specs.Judging.{Judging}
 use Rattle.sheets.specs.Scaling.{Scaling}
 use Rattle.sheets.specs.Bits.{has_plus_at}
-use Rattle.orders.specs.declared.search.Search.{Search}
+use Rattle.orders.specs.Search.{Search}
 use Rattle.orders.specs.Searches.{start, dismissed, stepped, Steps, none, more}
 use Rattle.orders.proofs.Powers.{has_plus, has_minus}
 use Rattle.orders.proofs.Dismissals.{turned}

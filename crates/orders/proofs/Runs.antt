@@ -11,7 +11,7 @@ use Rattle.orders.specs.declared.calls.Call.{Call}
 use Rattle.orders.specs.declared.calls.Call.TheVariants.{Pin, Bar, Strike, Undo, Seek, Advance, Settle, Withdraw, Reopen}
 use Rattle.orders.specs.declared.calls.Answer.{Answer}
 use Rattle.orders.specs.declared.calls.Event.{Event}
-use Rattle.orders.specs.declared.search.Search.{Search}
+use Rattle.orders.specs.Search.{Search}
 use Rattle.orders.specs.Acts.{in_range, under}
 use Rattle.orders.specs.Searches.{start, Steps, none}
 use Rattle.orders.specs.Stages.{Stage, marking, seeking, settled, stage_of, leads_to, same_stage, allowed}

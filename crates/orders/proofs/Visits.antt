@@ -4,7 +4,7 @@ use Rattle.std.proofs.lemmas.Bool.{both_ways, cases_lt, cases_Bool, or_cases}
 use Rattle.sheets.specs.Sheets.{has, MarksBelow, Within, Earlier}
 use Rattle.sheets.specs.Judging.{Judging, JudgeLaws}
 use Rattle.sheets.specs.Scaling.{Scaling, ScaleLaws}
-use Rattle.orders.specs.declared.search.Search.{Search}
+use Rattle.orders.specs.Search.{Search}
 use Rattle.orders.specs.Searches.{start, present_at, absent_at, too_dear, dead_at, dear_at, dismisses, stepped}
 use Rattle.orders.specs.Theorems.{SearchEnds, BeforeAt, Passed, SearchInOrder}
 use Rattle.orders.proofs.Dismissals.{Well, Agrees, Precedes, Past, dismissed_held, past_from}

@@ -3,7 +3,7 @@ use Rattle.std.proofs.Common.{◌≡◌, ℕ, suc, ◌+◌, ◌<◌, ◌≤◌, 
 use Rattle.std.proofs.lemmas.Bool.{both_ways, cond_both, cond-true, cond-false, le-leb, lt-leb, leb-true, leb-false}
 use Rattle.sheets.specs.Judging.{Judging}
 use Rattle.sheets.specs.Scaling.{Scaling}
-use Rattle.orders.specs.declared.search.Search.{Search}
+use Rattle.orders.specs.Search.{Search}
 use Rattle.orders.specs.Searches.{dismissed, dismisses, stepped, Steps, none, more}
 use Rattle.orders.proofs.Dismissals.{dismissed_held, dismissed_few}
 

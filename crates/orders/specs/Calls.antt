@@ -2,7 +2,7 @@
 use Rattle.std.specs.Prelude.{◌≡◌, ℕ, Option}
 use Rattle.sheets.specs.Judging.{Judging}
 use Rattle.sheets.specs.Scaling.{Scaling}
-use Rattle.orders.specs.declared.search.Search.{Search}
+use Rattle.orders.specs.Search.{Search}
 use Rattle.orders.specs.declared.calls.Progress.{Progress}
 use Rattle.orders.specs.Searches.{start, present_at, absent_at, Steps, Walked, Ended, priced}
 use Rattle.orders.specs.Best.{Best}

@@ -1,6 +1,7 @@
 pub mod Numbers
 pub mod Acts
 pub mod Dockets
+pub mod Search
 pub mod Searches
 pub mod Places
 pub mod Best

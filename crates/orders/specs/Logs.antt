@@ -11,7 +11,7 @@ use Rattle.orders.specs.declared.calls.Progress.{Progress}
 use Rattle.orders.specs.declared.calls.Answer.{Answer}
 use Rattle.orders.specs.declared.calls.Answer.TheVariants.{Stands, Refused, Moved, Shown, Final}
 use Rattle.orders.specs.declared.calls.Event.{Event}
-use Rattle.orders.specs.declared.search.Search.{Search}
+use Rattle.orders.specs.Search.{Search}
 use Rattle.orders.specs.Acts.{under}
 use Rattle.orders.specs.Dockets.{refused_act, undo_refused, taken, undone, returned}
 use Rattle.orders.specs.Searches.{start, present_at, absent_at, Steps, priced}

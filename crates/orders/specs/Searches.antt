@@ -4,7 +4,7 @@ use Rattle.std.specs.Option.{unwrap_or}
 use Rattle.sheets.specs.Sheets.{width, has, others}
 use Rattle.sheets.specs.Judging.{Judging}
 use Rattle.sheets.specs.Scaling.{Scaling}
-use Rattle.orders.specs.declared.search.Search.{Search}
+use Rattle.orders.specs.Search.{Search}
 
 -- ---- the place
 

@@ -3,7 +3,7 @@ use Rattle.std.specs.Prelude.{◌≡◌, ℕ, suc, ◌-◌, ◌^◌, ◌≤◌, 
 use Rattle.sheets.specs.Sheets.{MarksBelow, Within, Earlier}
 use Rattle.sheets.specs.Judging.{Judging}
 use Rattle.sheets.specs.Scaling.{Scaling}
-use Rattle.orders.specs.declared.search.Search.{Search}
+use Rattle.orders.specs.Search.{Search}
 use Rattle.orders.specs.Searches.{start, present_at, absent_at, stepped, Steps}
 use Rattle.orders.specs.Places.{Before}
 

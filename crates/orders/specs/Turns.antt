@@ -8,7 +8,7 @@ use Rattle.orders.specs.declared.calls.Call.TheVariants as call
 use Rattle.orders.specs.declared.calls.Progress.{Progress}
 use Rattle.orders.specs.declared.calls.Answer.{Answer}
 use Rattle.orders.specs.declared.calls.Answer.TheVariants.{Shown, Final}
-use Rattle.orders.specs.declared.search.Search.{Search}
+use Rattle.orders.specs.Search.{Search}
 use Rattle.orders.specs.declared.stage.Order.{Order}
 use Rattle.orders.specs.declared.stage.Order.TheVariants.{Marking, Seeking, Settled}
 use Rattle.orders.specs.Acts.{under}

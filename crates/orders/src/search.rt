@@ -1,8 +1,10 @@
 // Where a search stands.
-ghost use Rattle.std.specs.Prelude.{◌≡◌};
-ghost use Rattle.orders.specs.Searches.{start, present_at, absent_at};
+ghost use Rattle.std.specs.Prelude.{◌≡◌, ◌+◌, ◌<◌, false};
+ghost use Rattle.sheets.specs.Sheets.{width};
+ghost use Rattle.orders.specs.Searches.{start, dismissed, present_at, absent_at};
 
-use sheets::{PartSheet, Sheet, first_marks};
+use sheets::{PartSheet, Sheet, first_marks, has_mark};
+use std::marker::Model;
 
 // The place decides the first `decided` marks, of which those in `present` are present and the others absent.
 #[derive(Clone, Copy, Debug, PartialEq, Eq)]
@@ -11,6 +13,20 @@ pub struct Search {
     pub(crate) present: Sheet,
     pub(crate) held: Option<Sheet>,
     pub(crate) finished: bool,
+}
+
+impl Model for Search {
+    ghost use Rattle.std.specs.Prelude.{◌≤◌};
+    ghost use Rattle.sheets.specs.Sheets.{width};
+    ghost use Rattle.orders.specs.Search.{Search as Place};
+
+    ghost Value = { Place };
+
+    ghost view = { λ s. record { decided = s.decided; present = s.present; held = s.held; finished = s.finished } };
+
+    ghost inverse = { λ s. record { decided = s.decided; present = s.present; held = s.held; finished = s.finished } };
+
+    ghost invariant = { λ s. s.decided ≤ width };
 }
 
 impl Search {
@@ -35,5 +51,43 @@ impl Search {
             first_marks(self.decided) | !first_marks(count),
             self.present,
         )
+    }
+
+    // Drops the trailing present decisions, then turns the last absent one into present; the sheet is held from then on.
+    pub(crate) fn dismiss(self, held: Option<Sheet>) -> Search
+        ensures { result ≡ dismissed self.decided self.present held }
+    {
+        let mut present = self.present;
+        for last in (0..self.decided).rev() {
+            let bit: Sheet = 1 << last;
+            if !has_mark(present, last) {
+                return Search {
+                    decided: last + 1,
+                    present: present | bit,
+                    held,
+                    finished: false,
+                };
+            }
+            present -= bit;
+        }
+        Search {
+            decided: 0,
+            present: 0,
+            held,
+            finished: true,
+        }
+    }
+
+    // Decides the next mark absent.
+    pub(crate) fn deepen(self) -> Search
+        requires { self.decided < width }
+        ensures { result ≡ record { decided = self.decided + 1; present = self.present; held = self.held; finished = false } }
+    {
+        Search {
+            decided: self.decided + 1,
+            present: self.present,
+            held: self.held,
+            finished: false,
+        }
     }
 }

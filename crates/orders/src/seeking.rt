@@ -1,6 +1,5 @@
 // Seeking orders: the search for the cheapest sheet.
-ghost use Rattle.std.specs.Prelude.{◌≡◌, ◌≤◌};
-ghost use Rattle.sheets.specs.Sheets.{width};
+ghost use Rattle.std.specs.Prelude.{◌≡◌};
 ghost use Rattle.orders.specs.Calls.{Advanced, Settling};
 ghost use Rattle.orders.specs.Models.{held_to};
 
@@ -9,7 +8,7 @@ use crate::layer::Acts;
 use crate::marking::Marking;
 use crate::search::Search;
 use crate::settled::Settled;
-use crate::steps::{finish, walk, with_cost};
+use crate::steps::{Walk, with_cost};
 use sheets::{Judge, Scale};
 
 // An order whose search goes on.
@@ -18,7 +17,6 @@ pub struct Seeking<J, S> {
     pub(crate) acts: Acts<J>,
     pub(crate) scale: S,
     pub(crate) search: Search,
-    ghost within: { search.decided ≤ width },
 }
 
 impl<J: Judge, S: Scale> Seeking<J, S> {
@@ -28,7 +26,9 @@ impl<J: Judge, S: Scale> Seeking<J, S> {
         ensures acts { self.new.acts ≡ self.old.acts }
         ensures scale { self.new.scale ≡ self.old.scale }
     {
-        let (taken, search) = walk(&self.acts, &self.scale, self.search, most);
+        let mut walk = Walk::begin(&self.acts, &self.scale, self.search);
+        let taken = walk.take(most);
+        let search = walk.search;
         self.search = search;
         Progress {
             taken,
@@ -49,7 +49,9 @@ impl<J: Judge, S: Scale> Seeking<J, S> {
             scale,
             search,
         } = self;
-        let last = finish(&acts, &scale, search);
+        let mut walk = Walk::begin(&acts, &scale, search);
+        walk.finish();
+        let last = walk.search;
         Settled {
             acts,
             scale,

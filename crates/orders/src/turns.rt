@@ -25,52 +25,39 @@ impl<C> From<Result<u8, Refusal>> for Answer<C> {
 }
 
 fn marking_turn<J: Judge + Drop, S: Scale + Drop>(
-    marking: Marking<J, S>,
+    mut marking: Marking<J, S>,
     call: Call,
 ) -> Option<(Order<J, S>, Answer<S::Cost>)>
     ensures { Answered J.judging S.scaling (MarkingOrder marking) call result }
 {
-    let mut order = marking;
-    match call {
-        Call::Pin(mark) => {
-            let answer = order.pin(mark).into();
-            Some((Order::Marking(order), answer))
-        }
-        Call::Bar(mark) => {
-            let answer = order.bar(mark).into();
-            Some((Order::Marking(order), answer))
-        }
-        Call::Strike(sheet) => {
-            let answer = order.strike(sheet).into();
-            Some((Order::Marking(order), answer))
-        }
-        Call::Undo => {
-            let answer = order.undo().into();
-            Some((Order::Marking(order), answer))
-        }
-        Call::Seek => Some((Order::Seeking(order.seek()), Answer::Moved)),
-        _ => None,
-    }
+    let returned = match call {
+        Call::Pin(mark) => marking.pin(mark),
+        Call::Bar(mark) => marking.bar(mark),
+        Call::Strike(sheet) => marking.strike(sheet),
+        Call::Undo => marking.undo(),
+        Call::Seek => return Some((Order::Seeking(marking.seek()), Answer::Moved)),
+        _ => return None,
+    };
+    Some((Order::Marking(marking), returned.into()))
 }
 
 fn seeking_turn<J: Judge + Drop, S: Scale + Drop>(
-    seeking: Seeking<J, S>,
+    mut seeking: Seeking<J, S>,
     call: Call,
 ) -> Option<(Order<J, S>, Answer<S::Cost>)>
     ensures { Answered J.judging S.scaling (SeekingOrder seeking) call result }
 {
-    let mut order = seeking;
     match call {
         Call::Advance(most) => {
-            let progress = order.advance(most);
-            Some((Order::Seeking(order), Answer::Shown(progress)))
+            let progress = seeking.advance(most);
+            Some((Order::Seeking(seeking), Answer::Shown(progress)))
         }
         Call::Settle => {
-            let settled = order.settle();
+            let settled = seeking.settle();
             let answer = Answer::Final(settled.answer());
             Some((Order::Settled(settled), answer))
         }
-        Call::Withdraw => Some((Order::Marking(order.withdraw()), Answer::Moved)),
+        Call::Withdraw => Some((Order::Marking(seeking.withdraw()), Answer::Moved)),
         _ => None,
     }
 }

@@ -1,21 +1,25 @@
-use Rattle.std.proofs.Common.{refl}
+use Rattle.std.proofs.Common.{◌≡◌, sym, ap, subst}
+use Rattle.orders.specs.Search.{Search}
+use Rattle.orders.specs.Searches.{Ended, priced}
+use Rattle.orders.specs.Best.{Best}
 use Rattle.orders.specs.Models.{acts_of, held_to}
-use Rattle.orders.proofs.Found.{ended_best}
 use Rattle.orders.specs.Under.{under_laws}
+use Rattle.orders.proofs.Found.{ended_best}
 use Rattle.orders.proofs.seeking.Seeking.settle.Goals as goal
 
-pub returns : goal.returns
-returns g c =
+pub returns-clause-search : goal.returns-clause-search
+returns-clause-search g c =
     let me = c.args.self in
-    let last = c.finish-last.result in
-    let jl = under_laws (g.J.Judge.judging me.acts.judge) (acts_of me.acts) me.acts.docket.ranges (g.met.J.Judge.lawful me.acts.judge) in
+    let j = held_to g.J.Judge.judging me.acts in
+    let s = g.S.Scale.scaling me.scale in
+    let last = c.finish.new.self.search in
+    let told = c.begin-walk.ensures in
+    let ended : Ended j s me.search last = rw (told.judge, told.scale, told.search) at c.finish.ensures in
+    let its_held : c.last.inside.held ≡ last.held = ap (λ (x : Search). x.held) c.last.view_is in
+    let laws = under_laws (g.J.Judge.judging me.acts.judge) (acts_of me.acts) me.acts.docket.ranges (g.met.J.Judge.lawful me.acts.judge) in
     record {
-      search = record {
-        last = last;
-        ended = c.finish-last.ensures;
-        its_held = refl;
-        best = λ reached. ended_best (held_to g.J.Judge.judging me.acts) (g.S.Scale.scaling me.scale) jl (g.met.S.Scale.lawful me.scale) me.search last reached.0 reached.1 c.finish-last.ensures;
-      };
-      acts = refl;
-      scale = refl;
+      last = last;
+      ended = ended;
+      its_held = its_held;
+      best = λ reached. subst (λ h. Best j s (priced s h)) (sym its_held) (ended_best j s laws (g.met.S.Scale.lawful me.scale) me.search last reached.0 reached.1 ended);
     }
