@@ -29,13 +29,10 @@ fn to_call(act: Act) -> Call
 fn calls_after(heap: Global, acts: &[Act]) -> Result<Vec<Call>, AllocError>
     ensures { IfOk result (λ calls. calls.items ≡ calls_for acts.now) }
 {
-    let mut calls = Vec::new(heap);
-    for act in acts {
-        calls.push(to_call(*act))?;
-    }
-    calls.push(Call::Seek)?;
-    calls.push(Call::Settle)?;
-    Ok(calls)
+    acts.iter()
+        .map(|act| to_call(*act))
+        .chain([Call::Seek, Call::Settle])
+        .collect(heap)
 }
 
 // The log of the order that settles after the acts of the file: its text is the report.
