@@ -5,15 +5,18 @@ ghost use Rattle.report.specs.Lines.{call_of};
 ghost use Rattle.report.specs.Logs.{calls_for, log_text};
 ghost use Rattle.report.specs.Reports.{Fitting};
 
-use crate::lines::Cost;
 use judges::{Book, PrinterList};
 use orders::{Call, Event, conduct};
 use rulefile::{Act, RuleFile};
-use scales::{Distance, Levels};
+use scales::{Distance, LevelCost, Levels};
 use sheets::{Both, FirstThen};
 use std::alloc::{AllocError, Global};
 use std::rc::Rc;
 
+// The cost of a report's order: levels, then distance.
+pub(crate) type Cost = (LevelCost, u32);
+
+// Neither type is this crate's, so no `From` can stand here.
 fn to_call(act: Act) -> Call
     ensures { result ≡ call_of act }
 {
