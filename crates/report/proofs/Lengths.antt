@@ -1,10 +1,13 @@
 -- How long the lines of a report can be.
-use Rattle.std.proofs.Common.{ℕ, zero, suc, ◌+◌, ◌*◌, ◌/◌, ◌%◌, ◌<◌, ◌≤◌, Bool, true, false, cond, eqb, List, [], ◌∷◌, ◌++◌, map, length, ℤ, pos, negsuc, neg_ℤ, ◌≤ℤ◌, Some, None, codes, decimal, filter, Option, ap, arith}
+use Rattle.std.proofs.Common.{ℕ, zero, suc, ◌+◌, ◌*◌, ◌/◌, ◌%◌, ◌<◌, ◌≤◌, Bool, true, false, cond, eqb, List, [], ◌∷◌, ◌++◌, map, length, ℤ, pos, negsuc, neg_ℤ, ◌≤ℤ◌, Some, None, codes, decimal, filter, get_or, Option, arith}
 use lib.Signed.{mag, le_z}
-use Rattle.std.specs.List.{range_with_len}
+use Rattle.std.specs.List.{All, range_with_len}
 use Rattle.std.specs.Fmt.{signed_decimal, digits, digits_onto, digit_glyph}
 use Rattle.std.proofs.lemmas.Fmt.{length-decimal-le, length_signed_le}
 use Rattle.std.proofs.lemmas.List.{length-append, length-map}
+use Rattle.std.proofs.lemmas.List.Elements.{All-nil, All-cons, All-filter}
+use Rattle.std.proofs.lemmas.List.FromFn.{get_or-range_with_len}
+use Rattle.std.proofs.lemmas.List.Sums.{length-filter, count_by-le-length}
 use Rattle.std.proofs.lemmas.Int.{ints}
 use Rattle.std.proofs.lemmas.Bool.{and_parts}
 use Rattle.std.specs.List.{list_all}
@@ -12,8 +15,6 @@ use Rattle.sheets.specs.Sheets.{width, has}
 use Rattle.sheets.specs.Literals.{holds}
 use Rattle.rulefile.specs.declared.records.Act.{Act}
 use Rattle.rulefile.specs.declared.refusals.BadFile.{BadFile}
-use Rattle.rulefile.specs.declared.refusals.Refusal as file
-use Rattle.rulefile.specs.declared.refusals.Refusal.TheVariants as file-why
 use Rattle.rulefile.specs.declared.wishes.Wish.{Wish}
 use Rattle.rulefile.specs.declared.files.RuleFile.{RuleFile}
 use Rattle.rulefile.specs.Answers.{file_of}
@@ -28,7 +29,7 @@ use Rattle.orders.specs.declared.acts.Refusal.TheVariants.{MarkRange, MarkTaken,
 use Rattle.orders.specs.Logs.{fed}
 use Rattle.orders.specs.Numbers.{number}
 use Rattle.report.specs.Lines.{line_end, bad_file_line, act_line, call_of, refused_by, act_lines, spaced, marks, sheet_line, no_sheet_line, answer_line}
-use Rattle.report.proofs.Texts.{spaced_more, spaced_kept}
+use Rattle.report.proofs.Texts.{length-spaced-le}
 
 -- ---- numbers
 
@@ -56,18 +57,6 @@ act_number SheetStruck = omega arith
 act_number DocketFull = omega arith
 act_number DocketEmpty = omega arith
 
-file_small : (why : file.Refusal) → file-number.number why < 100
-file_small file-why.FileTooLong = omega arith
-file_small file-why.RecordCut = omega arith
-file_small file-why.LengthRange = omega arith
-file_small file-why.LengthPastEnd = omega arith
-file_small file-why.UnknownKind = omega arith
-file_small file-why.HeadMisplaced = omega arith
-file_small file-why.TooManyOfKind = omega arith
-file_small file-why.BodyLength = omega arith
-file_small file-why.OutOfRange = omega arith
-file_small file-why.MarkRange = omega arith
-
 -- ---- a bad file
 
 pub bad_file_short : (bad : BadFile) → length (bad_file_line bad) ≤ 4096
@@ -77,7 +66,7 @@ bad_file_short bad =
     let at = decimal bad.at in
     omega (
       arith,
-      two_digits (file-number.number bad.why) (file_small bad.why),
+      decimal_length (file-number.number bad.why),
       decimal_length bad.at,
       length-append n (codes " at " ++ (at ++ line_end)),
       length-append at line_end,
@@ -102,30 +91,23 @@ acts_length n standing (a ∷ acts) =
 
 -- ---- marks
 
-mark_length : (b : Bool) (i : ℕ) → i < 100 → length (spaced decimal (cond b (i ∷ []) [])) ≤ 3
-unfolding spaced
-mark_length true i lt = omega (arith, two_digits i lt, length-append (decimal i) [])
-mark_length false i lt = omega arith
-
-kept_length : (z i k : ℕ) → i + k ≤ 100 → length (spaced decimal (filter (has z) (range_with_len i k))) ≤ 3 * k
-unfolding spaced
-kept_length z i zero le = omega arith
-kept_length z i (suc k) le =
-    let first = spaced decimal (filter (has z) (i ∷ [])) in
-    let rest = spaced decimal (filter (has z) (range_with_len (i + 1) k)) in
-    omega (arith, ap length (spaced_kept decimal (has z) i (range_with_len (i + 1) k)), length-append first rest, mark_length (has z i) i (omega arith), kept_length z (i + 1) k (omega arith))
-
 marks_length : (z : ℕ) → length (spaced decimal (marks z)) ≤ 192
 unfolding marks
-marks_length z = kept_length z 0 width (omega arith)
+marks_length z =
+    let all_marks = range_with_len 0 width in
+    let short : All (λ m. length (decimal m) ≤ 2) all_marks = λ i d lt. two_digits (get_or all_marks i d) (omega (arith, get_or-range_with_len 0 width i d lt)) in
+    omega (
+      arith,
+      length-spaced-le decimal 2 (filter (has z) all_marks) (All-filter (has z) (λ m. length (decimal m) ≤ 2) all_marks short),
+      length-filter (has z) all_marks,
+      count_by-le-length (has z) all_marks,
+    )
 
 -- ---- levels
 
-levels_length : (n : ℕ) (g : ℕ → ℤ) → ((m : ℕ) → length (signed_decimal (g m)) ≤ 11) → length (spaced signed_decimal (down_from n g)) ≤ 12 * n
-unfolding spaced
-levels_length zero g short = omega arith
-levels_length (suc n) g short =
-    omega (arith, ap length (spaced_more signed_decimal (g (suc n)) (down_from n g)), length-append (signed_decimal (g (suc n))) (spaced signed_decimal (down_from n g)), short (suc n), levels_length n g short)
+down_from_short : (n : ℕ) (g : ℕ → ℤ) → ((m : ℕ) → length (signed_decimal (g m)) ≤ 11) → All (λ c. length (signed_decimal c) ≤ 11) (down_from n g)
+down_from_short zero g short = All-nil (λ c. length (signed_decimal c) ≤ 11)
+down_from_short (suc n) g short = All-cons (λ c. length (signed_decimal c) ≤ 11) (g (suc n)) (down_from n g) (short (suc n)) (down_from_short n g short)
 
 -- a sum of at most k weights
 within : (z : ℤ) (k : ℕ) → k ≤ 256 → neg_ℤ (pos (10000 * k)) ≤ℤ z → z ≤ℤ pos (10000 * k) → length (signed_decimal z) ≤ 11
@@ -186,7 +168,7 @@ module _ (file : RuleFile) where
   answer_length (Some z) =
       let sums = sum_at (wish_cost z) (file_of file).wishes in
       let each : (m : ℕ) → length (signed_decimal (sums m)) ≤ 11 = λ m. let b = sum_bounds z m file.wishes.items in within (sums m) (length file.wishes.items) few_wishes b.0 b.1 in
-      sheet_length z ((distance_of file.house).cost z) (down_from top sums) (levels_length top sums each) (omega (arith, marks_where_le width (differ_at z file.house)))
+      sheet_length z ((distance_of file.house).cost z) (down_from top sums) (length-spaced-le signed_decimal 11 (down_from top sums) (down_from_short top sums each)) (omega (arith, marks_where_le width (differ_at z file.house)))
 
   pub lines_short : (held : Option ℕ) → length (act_lines file.count [] file.acts.items ++ answer_line (file_of file) held) ≤ 4096
   lines_short held =

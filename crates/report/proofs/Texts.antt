@@ -1,26 +1,18 @@
 -- The texts of lists, piece by piece.
-use Rattle.std.proofs.Common.{◌≡◌, ℕ, zero, suc, ◌+◌, ◌-◌, ◌<◌, ◌≤◌, Bool, true, false, cond, List, [], ◌∷◌, ◌++◌, ℤ, decimal, filter, sym, refl, ap, ◌∙◌, arith}
-use Rattle.std.specs.List.{range_with_len, flat_map}
-use Rattle.std.proofs.lemmas.List.{append-nil}
+use Rattle.std.proofs.Common.{◌≡◌, ℕ, zero, suc, ◌+◌, ◌-◌, ◌*◌, ◌<◌, ◌≤◌, Bool, true, false, cond, List, [], ◌∷◌, ◌++◌, ℤ, decimal, filter, length, refl, ap, ◌∙◌, arith}
+use Rattle.std.specs.List.{All, range_with_len}
+use Rattle.std.proofs.lemmas.List.Concat.{length-flat_map}
+use Rattle.std.proofs.lemmas.List.Sums.{sum_by-le}
 use Rattle.std.specs.Fmt.{signed_decimal}
 use Rattle.sheets.specs.Sheets.{width, has}
 use Rattle.scales.specs.Wishes.{top, down_from, cost_at}
 use Rattle.report.specs.Lines.{spaced, marks}
 
-module _ {A : Type 0} (text : A → List ℕ) where
-  pub spaced_more : (x : A) (xs : List A) → spaced text (x ∷ xs) ≡ (32 ∷ text x) ++ spaced text xs
-  unfolding spaced
-  spaced_more x xs = refl
-
-  -- the first of a list, if it passes the test, and the others that do
-  pub spaced_kept : (test : A → Bool) (x : A) (xs : List A) → spaced text (filter test (x ∷ xs)) ≡ spaced text (filter test (x ∷ [])) ++ spaced text (filter test xs)
-  unfolding spaced
-  spaced_kept test x xs = go (test x)
-    where
-      go : (b : Bool) → flat_map (λ y. 32 ∷ text y) (cond b (x ∷ filter test xs) (filter test xs))
-          ≡ flat_map (λ y. 32 ∷ text y) (cond b (x ∷ []) []) ++ flat_map (λ y. 32 ∷ text y) (filter test xs)
-      go true = ap (λ (t : List ℕ). t ++ flat_map (λ y. 32 ∷ text y) (filter test xs)) (sym (append-nil (32 ∷ text x)))
-      go false = refl
+-- each text has at most k bytes
+pub length-spaced-le : {A : Type 0} (text : A → List ℕ) (k : ℕ) (xs : List A) → All (λ x. length (text x) ≤ k) xs → length (spaced text xs) ≤ length xs * (k + 1)
+unfolding spaced
+length-spaced-le text k xs short =
+    omega (arith, length-flat_map (λ x. 32 ∷ text x) xs, sum_by-le (λ x. suc (length (text x))) (k + 1) xs (λ i d lt. omega (arith, short i d lt)))
 
 -- ---- marks
 
@@ -64,11 +56,11 @@ unfolding levels_left
 levels_left_all levels = refl
 
 pub levels_left_more : (levels : List ℤ) (n : ℕ) → 1 ≤ n → levels_left levels n ≡ (32 ∷ []) ++ (signed_decimal (cost_at levels n) ++ levels_left levels (n - 1))
-unfolding levels_left
+unfolding levels_left spaced
 levels_left_more levels zero le = absurd (omega arith)
 levels_left_more levels (suc n) le =
     let e : n ≡ suc n - 1 = omega arith in
-    spaced_more signed_decimal (cost_at levels (suc n)) (down_from n (cost_at levels)) ∙ ap (λ (m : ℕ). (32 ∷ signed_decimal (cost_at levels (suc n))) ++ levels_left levels m) e
+    ap (λ (m : ℕ). 32 ∷ (signed_decimal (cost_at levels (suc n)) ++ levels_left levels m)) e
 
 pub levels_left_none : (levels : List ℤ) (n : ℕ) → n < 1 → levels_left levels n ≡ []
 unfolding levels_left spaced

@@ -150,9 +150,6 @@ pub conducted_told : (f a b d : FileModel) (h room : ℕ) (calls : List Call) (b
     → Conducted (both (book_of a) (list_of b)) (first_then (levels_of d.wishes) (distance_of h)) room calls before after
     → before ≡ [] → calls ≡ calls_for f.acts → length calls ≤ room → Lines (Ok f) (log_text after)
 conducted_told f a b d h room calls before after ea eb ed eh done none e enough =
-    let c = subst (λ (x : FileModel). Conducted (both (book_of x) (list_of b)) (first_then (levels_of d.wishes) (distance_of h)) room calls before after) ea done in
-    let c = subst (λ (x : FileModel). Conducted (both (book_of f) (list_of x)) (first_then (levels_of d.wishes) (distance_of h)) room calls before after) eb c in
-    let c = subst (λ (x : FileModel). Conducted (judge_of f) (first_then (levels_of x.wishes) (distance_of h)) room calls before after) ed c in
-    let c = subst (λ (x : ℕ). Conducted (judge_of f) (first_then (levels_of f.wishes) (distance_of x)) room calls before after) eh c in
-    let all : after ≡ c.events = c.added ∙ ap (λ (l : List (Event Cost)). l ++ c.events) none in
-    subst (λ (l : List (Event Cost)). Lines (Ok f) (log_text l)) (sym all) (lines_told f room calls c.events c.kept e enough)
+    let c = rw (ea, eb, ed, eh) at done in
+    let all : after ≡ c.events = rw none at c.added in
+    rw all (lines_told f room calls c.events c.kept e enough)

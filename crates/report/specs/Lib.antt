@@ -1,4 +1,5 @@
 pub mod Numbers
+pub mod ErrorTexts
 pub mod Writing
 pub mod Lines
 pub mod Reports

@@ -1,7 +1,6 @@
 // The report: what becomes of the acts of a rule file, and the sheet that the order then settles on, in lines.
 #![tactic(auto)]
 
-mod lines;
 mod refusals;
 mod reports;
 mod settling;

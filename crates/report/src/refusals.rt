@@ -1,15 +1,18 @@
 // Why no report is written.
-ghost use Rattle.std.specs.Prelude.{◌≡◌};
+ghost use Rattle.std.specs.Prelude.{◌≡◌, Some};
 ghost use Rattle.report.specs.Numbers.{number};
-ghost use Rattle.report.specs.declared.refusals.ReportError.TheVariants.{Memory};
+ghost use Rattle.report.specs.ErrorTexts.{refusal_text, error_text};
+ghost use Rattle.report.specs.declared.refusals.ReportError.TheVariants.{Refused, Memory};
 
-use std::alloc::{AllocError, AllocFailed};
+use std::alloc::AllocError;
+use std::error::Error;
+use std::fmt;
 
-// Why a report is refused.
+// Why a report is refused, with the number by which the refusal is known.
 #[derive(Clone, Copy, Debug, PartialEq, Eq)]
 pub enum Refusal {
     // The buffer has fewer than 4,096 bytes.
-    BufferSmall,
+    BufferSmall = 31,
 }
 
 impl Refusal {
@@ -17,11 +20,21 @@ impl Refusal {
     pub fn number(self) -> u8
         ensures { result ≡ number self }
     {
+        self as u8
+    }
+}
+
+impl fmt::Display for Refusal {
+    ghost output = { λ why. Some (refusal_text why) };
+
+    fn fmt<W: fmt::Write>(&self, f: &mut fmt::Formatter<W>) -> fmt::Result {
         match self {
-            Refusal::BufferSmall => 31,
+            Refusal::BufferSmall => f.write_str("refused 31: the buffer has fewer than 4096 bytes"),
         }
     }
 }
+
+impl Error for Refusal {}
 
 // Why a report was not written: it is refused, or memory is wanting.
 #[derive(Clone, Copy, Debug, PartialEq, Eq)]
@@ -30,10 +43,31 @@ pub enum ReportError {
     Memory,
 }
 
-impl From<AllocError> for ReportError {
-    ghost from_gives = { λ _ r. r ≡ Memory };
+impl fmt::Display for ReportError {
+    ghost output = { λ e. Some (error_text e) };
 
-    fn from(_e: AllocError) -> ReportError {
+    fn fmt<W: fmt::Write>(&self, f: &mut fmt::Formatter<W>) -> fmt::Result {
+        match self {
+            ReportError::Refused(why) => why.fmt(f),
+            ReportError::Memory => f.write_str("no memory for the report"),
+        }
+    }
+}
+
+impl Error for ReportError {}
+
+impl From<Refusal> for ReportError {
+    ghost from_gives = { λ refusal e. e ≡ Refused refusal };
+
+    fn from(refusal: Refusal) -> ReportError {
+        ReportError::Refused(refusal)
+    }
+}
+
+impl From<AllocError> for ReportError {
+    ghost from_gives = { λ _ e. e ≡ Memory };
+
+    fn from(_: AllocError) -> ReportError {
         ReportError::Memory
     }
 }

@@ -16,7 +16,7 @@ pub fn report(heap: Global, file: &[u8], out: &mut [u8]) -> Result<usize, Report
     ensures { Reported file.now out.old result out.new }
 {
     if out.len() < LEAST_BUFFER {
-        return Err(ReportError::Refused(Refusal::BufferSmall));
+        return Err(Refusal::BufferSmall.into());
     }
     let mut lines = Writer::new(out);
     match read(heap, file) {
@@ -25,6 +25,7 @@ pub fn report(heap: Global, file: &[u8], out: &mut [u8]) -> Result<usize, Report
             lines.log(log.as_slice());
         }
         Err(ReadError::Refused(bad)) => lines.bad_file(bad),
+        // A bad file is reported, so the reader's error is no error here, and `?` doesn't convert it.
         Err(ReadError::Memory) => return Err(ReportError::Memory),
     }
     Ok(lines.len())

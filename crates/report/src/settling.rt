@@ -5,15 +5,18 @@ ghost use Rattle.report.specs.Lines.{call_of};
 ghost use Rattle.report.specs.Logs.{calls_for, log_text};
 ghost use Rattle.report.specs.Reports.{Fitting};
 
-use crate::lines::Cost;
 use judges::{Book, PrinterList};
 use orders::{Call, Event, conduct};
 use rulefile::{Act, RuleFile};
-use scales::{Distance, Levels};
+use scales::{Distance, LevelCost, Levels};
 use sheets::{Both, FirstThen};
 use std::alloc::{AllocError, Global};
 use std::rc::Rc;
 
+// The cost of a report's order: levels, then distance.
+pub(crate) type Cost = (LevelCost, u32);
+
+// Neither type is this crate's, so no `From` can stand here.
 fn to_call(act: Act) -> Call
     ensures { result ≡ call_of act }
 {
@@ -29,13 +32,10 @@ fn to_call(act: Act) -> Call
 fn calls_after(heap: Global, acts: &[Act]) -> Result<Vec<Call>, AllocError>
     ensures { IfOk result (λ calls. calls.items ≡ calls_for acts.now) }
 {
-    let mut calls = Vec::new(heap);
-    for act in acts {
-        calls.push(to_call(*act))?;
-    }
-    calls.push(Call::Seek)?;
-    calls.push(Call::Settle)?;
-    Ok(calls)
+    acts.iter()
+        .map(|act| to_call(*act))
+        .chain([Call::Seek, Call::Settle])
+        .collect(heap)
 }
 
 // The log of the order that settles after the acts of the file: its text is the report.

@@ -1,8 +1,17 @@
-// Texts and numbers, written into a buffer one behind another.
-ghost use Rattle.std.specs.Prelude.{◌≡◌, decimal};
+// The lines of a report, written into a buffer one behind another.
+ghost use Rattle.std.specs.Prelude.{◌≡◌, Some, decimal};
 ghost use Rattle.std.specs.Fmt.{signed_decimal};
+ghost use Rattle.scales.specs.Wishes.{top, down_from, cost_at};
+ghost use Rattle.report.specs.Lines.{bad_file_line, act_line, spaced, marks, sheet_line};
+ghost use Rattle.report.specs.Logs.{final_text, answer_text, log_text};
 
-// A buffer, and how many bytes at its front are written.
+use crate::settling::Cost;
+use orders::{Answer, Event, Refusal};
+use rulefile::BadFile;
+use scales::LevelCost;
+use sheets::{Sheet, WIDTH, has_mark};
+
+// A buffer, and how many bytes at its front are written. No second buffer: each text is copied straight into this one.
 #[derive(Drop)]
 pub(crate) struct Writer<'a> {
     out: &'a mut [u8],
@@ -26,7 +35,7 @@ impl<'a> Writer<'a> {
         self.len
     }
 
-    pub(crate) fn text(&mut self, text: &[u8])
+    fn text(&mut self, text: &[u8])
         requires { Fits self.old text.now }
         ensures { Writes self.old text.now self.new }
     {
@@ -36,7 +45,7 @@ impl<'a> Writer<'a> {
     }
 
     // The number in decimal: what its tenth is written as, and its last digit.
-    pub(crate) fn number(&mut self, n: u32)
+    fn number(&mut self, n: u32)
         requires { Fits self.old (decimal n) }
         ensures { Writes self.old (decimal n) self.new }
     {
@@ -47,7 +56,7 @@ impl<'a> Writer<'a> {
     }
 
     // The number in decimal, with `-` before a negative one.
-    pub(crate) fn signed(&mut self, n: i32)
+    fn signed(&mut self, n: i32)
         requires { Fits self.old (signed_decimal n) }
         ensures { Writes self.old (signed_decimal n) self.new }
     {
@@ -55,5 +64,102 @@ impl<'a> Writer<'a> {
             self.text(b"-");
         }
         self.number(n.unsigned_abs());
+    }
+
+    // The marks of the sheet upward, each behind a space.
+    fn marks(&mut self, sheet: Sheet)
+        requires { Fits self.old (spaced decimal (marks sheet)) }
+        ensures { Writes self.old (spaced decimal (marks sheet)) self.new }
+    {
+        for mark in 0..WIDTH {
+            if has_mark(sheet, mark) {
+                self.text(b" ");
+                self.number(u32::from(mark));
+            }
+        }
+    }
+
+    // The costs from level 8 down to level 1, each behind a space.
+    fn levels(&mut self, cost: LevelCost)
+        requires { Fits self.old (spaced signed_decimal (down_from top (cost_at cost.levels))) }
+        ensures { Writes self.old (spaced signed_decimal (down_from top (cost_at cost.levels))) self.new }
+    {
+        for level in (1..=8).rev() {
+            self.text(b" ");
+            self.signed(cost.at(level));
+        }
+    }
+
+    #[tactic(auto, unfolding(crate::specs::Lines::sheet_line))]
+    fn sheet(&mut self, sheet: Sheet, cost: Cost)
+        requires { Fits self.old (sheet_line sheet (down_from top (cost_at cost.0.levels)) cost.1) }
+        ensures { Writes self.old (sheet_line sheet (down_from top (cost_at cost.0.levels)) cost.1) self.new }
+    {
+        let (levels, distance) = cost;
+        self.text(b"sheet");
+        self.marks(sheet);
+        self.text(b" cost");
+        self.levels(levels);
+        self.text(b" off ");
+        self.number(distance);
+        self.text(b"\n");
+    }
+
+    // The settled sheet with its cost, or that there is no sheet.
+    #[tactic(auto, unfolding(crate::specs::Lines::no_sheet_line))]
+    fn settled(&mut self, answer: Option<(Sheet, Cost)>)
+        requires { Fits self.old (final_text answer) }
+        ensures { Writes self.old (final_text answer) self.new }
+    {
+        match answer {
+            Some((sheet, cost)) => self.sheet(sheet, cost),
+            None => self.text(b"no sheet\n"),
+        }
+    }
+
+    #[tactic(auto, unfolding(crate::specs::Lines::act_line))]
+    fn refusal(&mut self, why: Refusal)
+        requires { Fits self.old (act_line (Some why)) }
+        ensures { Writes self.old (act_line (Some why)) self.new }
+    {
+        self.text(b"refused ");
+        self.number(u32::from(why.number()));
+        self.text(b"\n");
+    }
+
+    #[tactic(auto, unfolding(crate::specs::Lines::act_line))]
+    fn answer(&mut self, answer: Answer<Cost>)
+        requires { Fits self.old (answer_text answer) }
+        ensures { Writes self.old (answer_text answer) self.new }
+    {
+        match answer {
+            Answer::Stands(_) => self.text(b"ok\n"),
+            Answer::Refused(why) => self.refusal(why),
+            Answer::Moved | Answer::Shown(_) => {}
+            Answer::Final(settled) => self.settled(settled),
+        }
+    }
+
+    // The lines of the answers.
+    pub(crate) fn log(&mut self, log: &[Event<Cost>])
+        requires { Fits self.old (log_text log.now) }
+        ensures { Writes self.old (log_text log.now) self.new }
+    {
+        for event in log {
+            self.answer(event.answer);
+        }
+    }
+
+    // The refusal of a file, and the offset of the record concerned.
+    #[tactic(auto, unfolding(crate::specs::Lines::bad_file_line))]
+    pub(crate) fn bad_file(&mut self, bad: BadFile)
+        requires { Fits self.old (bad_file_line bad) }
+        ensures { Writes self.old (bad_file_line bad) self.new }
+    {
+        self.text(b"refused ");
+        self.number(u32::from(bad.why.number()));
+        self.text(b" at ");
+        self.number(bad.at);
+        self.text(b"\n");
     }
 }
