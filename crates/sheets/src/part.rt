@@ -5,7 +5,7 @@ ghost use Rattle.sheets.specs.Sheets.{others, Apart, full, Full};
 use crate::marks::Sheet;
 
 // The marks that are present, and those that are absent; the others are undecided.
-#[derive(Clone, Copy)]
+#[derive(Clone, Copy, Debug, PartialEq, Eq)]
 pub struct PartSheet {
     present: Sheet,
     absent: Sheet,
