@@ -1,5 +1,6 @@
 -- The docket: one act more, and one less.
-use Rattle.std.proofs.Common.{◌≡◌, ℕ, ◌<◌, ◌≤◌, Bool, true, false, cond, List, [], ◌∷◌, ◌++◌, length, Some, None, Option, sym, refl, ap, ◌∙◌, arith}
+use Rattle.std.proofs.Common.{◌≡◌, ℕ, ◌≤◌, Bool, true, false, cond, List, [], ◌∷◌, ◌++◌, Some, None, Option, sym, refl, ap, ◌∙◌, arith}
+use Rattle.std.proofs.lemmas.List.Folds.{list_all-append}
 use Rattle.std.proofs.lemmas.Bool.{and_parts, and_from, leb-false, lt-ltb}
 use Rattle.std.specs.List.{list_all}
 use Rattle.std.specs.Option.{option_to_list}
@@ -8,16 +9,13 @@ use Rattle.orders.specs.declared.acts.Act.{Act}
 use Rattle.orders.specs.declared.acts.Act.TheVariants.{Pin, Bar, Strike}
 use Rattle.orders.specs.declared.acts.Refusal.{Refusal}
 use Rattle.orders.specs.declared.acts.Refusal.TheVariants.{MarkRange, MarkTaken, SheetStruck, DocketFull}
-use Rattle.orders.specs.Acts.{most_acts, in_range}
+use Rattle.orders.specs.Acts.{in_range}
 use Rattle.orders.specs.Dockets.{beyond, applies, first_that, refused_act, unless, taken, undone}
 
 -- ---- acts that name only marks that there are
 
 pub all_push : (acts : List Act) (a : Act) → list_all in_range acts ≡ true → in_range a ≡ true → list_all in_range (acts ++ (a ∷ [])) ≡ true
-all_push [] a p q = and_from (in_range a) true q refl
-all_push (x ∷ acts) a p q =
-    let r = and_parts (in_range x) (list_all in_range acts) p in
-    and_from (in_range x) (list_all in_range (acts ++ (a ∷ []))) r.0 (all_push acts a r.1 q)
+all_push acts a p q = list_all-append in_range acts (a ∷ []) ∙ and_from _ _ p (and_from _ _ q refl)
 
 pub all_undone : (acts : List Act) → list_all in_range acts ≡ true → list_all in_range (undone acts) ≡ true
 all_undone [] p = refl
@@ -32,7 +30,7 @@ none_that : (test : Refusal → Bool) (r : Refusal) (rest : List Refusal) → fi
 none_that test r rest = go (test r)
   where
     go : (b : Bool) → cond b (Some r) (first_that test rest) ≡ None → (b ≡ false) × (first_that test rest ≡ None)
-    go true e = let z : ◌≡◌ {A = ℕ} 0 1 = cc in absurd (omega arith)
+    go true e = cc
     go false e = (refl, e)
 
 module _ (n : ℕ) (acts : List Act) where
@@ -43,14 +41,6 @@ module _ (n : ℕ) (acts : List Act) where
   accepted_range (Pin m) few e = lt-ltb m width (omega (arith, leb-false n m (within_count (Pin m) e)))
   accepted_range (Bar m) few e = lt-ltb m width (omega (arith, leb-false n m (within_count (Bar m) e)))
   accepted_range (Strike z) few e = refl
-
-  pub accepted_room : (a : Act) → refused_act n acts a ≡ None → length acts < most_acts
-  accepted_room a e =
-      let f = applies n acts a in
-      let from_mark = (none_that f MarkRange (MarkTaken ∷ SheetStruck ∷ DocketFull ∷ []) e).1 in
-      let from_sheet = (none_that f MarkTaken (SheetStruck ∷ DocketFull ∷ []) from_mark).1 in
-      let from_full = (none_that f SheetStruck (DocketFull ∷ []) from_sheet).1 in
-      leb-false most_acts (length acts) (none_that f DocketFull [] from_full).0
 
   pub all_taken : (a : Act) → n ≤ width → list_all in_range acts ≡ true → list_all in_range (taken n acts a) ≡ true
   all_taken a few low = go (refused_act n acts a) refl

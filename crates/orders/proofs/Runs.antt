@@ -25,10 +25,10 @@ abbrev pub begun : State
 begun = record { stage = marking; acts = []; search = start }
 
 marking_no_seeking : marking ≡ seeking → ⊥
-marking_no_seeking e = let z : ◌≡◌ {A = ℕ} 0 1 = cc in omega arith
+marking_no_seeking e = cc
 
 settled_no_seeking : settled ≡ seeking → ⊥
-settled_no_seeking e = let z : ◌≡◌ {A = ℕ} 0 1 = cc in omega arith
+settled_no_seeking e = cc
 
 all_fed : (n : ℕ) (acts : List Act) (c : Call) → n ≤ width → list_all in_range acts ≡ true → list_all in_range (fed n acts c) ≡ true
 all_fed n acts (Pin mark) few low = all_taken n acts (act.Pin mark) few low

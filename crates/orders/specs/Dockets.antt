@@ -1,5 +1,5 @@
 -- The docket: which calls on the acts are refused, and the acts that then stand.
-use Rattle.std.specs.Prelude.{ℕ, ◌^◌, Bool, false, cond, not, List, [], ◌∷◌, ◌++◌, length, Some, None, Ok, Err, Option, Result, nat_le, nat_lt}
+use Rattle.std.specs.Prelude.{ℕ, ◌^◌, Bool, false, if◌then◌else◌, not, List, [], ◌∷◌, ◌++◌, length, Some, None, Ok, Err, Option, Result, nat_le, nat_lt}
 use Rattle.std.specs.List.{list_any}
 use Rattle.orders.specs.declared.acts.Act.{Act}
 use Rattle.orders.specs.declared.acts.Act.TheVariants.{Pin, Bar, Strike}
@@ -36,7 +36,7 @@ applies n acts a DocketEmpty = false
 -- the first that passes the test
 abbrev pub first_that : (Refusal → Bool) → List Refusal → Option Refusal
 first_that test [] = None
-first_that test (r ∷ rest) = cond (test r) (Some r) (first_that test rest)
+first_that test (r ∷ rest) = if test r then Some r else first_that test rest
 
 -- by what a pin, bar or strike is refused
 abbrev pub refused_act : ℕ → List Act → Act → Option Refusal

@@ -1,5 +1,5 @@
 -- One search: its place, one step, and a number of steps.
-use Rattle.std.specs.Prelude.{◌≡◌, ℕ, zero, suc, ◌+◌, ◌-◌, ◌^◌, ◌<◌, ◌≤◌, min, Bool, true, false, cond, not, ◌||◌, Some, None, Option, bit_and, bit_or, nat_le}
+use Rattle.std.specs.Prelude.{◌≡◌, ℕ, zero, suc, ◌+◌, ◌-◌, ◌^◌, ◌<◌, ◌≤◌, min, Bool, true, false, if◌then◌else◌, not, ◌||◌, Some, None, Option, bit_and, bit_or, nat_le}
 use Rattle.std.specs.Option.{unwrap_or}
 use Rattle.sheets.specs.Sheets.{width, has, others}
 use Rattle.sheets.specs.Judging.{Judging}
@@ -34,7 +34,7 @@ absent_at n x = bit_and (others x.present) (decided_at n x)
 abbrev pub dismissed : ℕ → ℕ → Option ℕ → Search
 dismissed zero z held = record { decided = 0; present = 0; held = held; finished = true }
 dismissed (suc k) z held =
-    cond (has z k) (dismissed k (z - 2 ^ k) held) (record { decided = suc k; present = z + 2 ^ k; held = held; finished = false })
+    if has z k then dismissed k (z - 2 ^ k) held else record { decided = suc k; present = z + 2 ^ k; held = held; finished = false }
 
 -- a sheet is held, and the floor is not below its cost
 abbrev pub too_dear : {C : Type 0} → Scaling C → Option ℕ → C → Bool
@@ -58,11 +58,9 @@ module _ {C : Type 0} (j : Judging) (s : Scaling C) where
   -- absent
   abbrev pub stepped : Search → Search
   stepped x =
-      cond (dismisses x)
-      (dismissed x.decided x.present x.held)
-      (cond (nat_le j.count x.decided)
-      (dismissed x.decided x.present (Some x.present))
-      (record { decided = x.decided + 1; present = x.present; held = x.held; finished = false }))
+      if dismisses x then dismissed x.decided x.present x.held
+      else if nat_le j.count x.decided then dismissed x.decided x.present (Some x.present)
+      else record { decided = x.decided + 1; present = x.present; held = x.held; finished = false }
 
   -- n steps, each from a place that is not finished
   pub data Steps : Search → ℕ → Search → Type 0 where

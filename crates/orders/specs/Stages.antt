@@ -1,5 +1,5 @@
 -- The stages of an order, and the calls that each has.
-use Rattle.std.specs.Prelude.{ℕ, zero, suc, Bool, true, false, cond, List, [], ◌∷◌}
+use Rattle.std.specs.Prelude.{ℕ, zero, suc, Bool, true, false, if◌then◌else◌, List, [], ◌∷◌}
 use Rattle.orders.specs.declared.calls.Call.{Call}
 use Rattle.orders.specs.declared.calls.Call.TheVariants.{Pin, Bar, Strike, Undo, Seek, Advance, Settle, Withdraw, Reopen}
 
@@ -46,4 +46,4 @@ same_stage settled settled = true
 -- how many of the calls, from the first on, their stages have
 abbrev pub allowed : Stage → List Call → ℕ
 allowed stage [] = zero
-allowed stage (c ∷ calls) = cond (same_stage stage (stage_of c)) (suc (allowed (leads_to c) calls)) zero
+allowed stage (c ∷ calls) = if same_stage stage (stage_of c) then suc (allowed (leads_to c) calls) else zero

@@ -20,7 +20,7 @@ pub enum Call {
 }
 
 // What an advance returns.
-#[derive(Clone, Copy)]
+#[derive(Clone, Copy, Debug, PartialEq, Eq)]
 pub struct Progress<C> {
     // How many steps it took.
     pub taken: u16,
@@ -32,7 +32,7 @@ pub struct Progress<C> {
 }
 
 // What a call is answered.
-#[derive(Clone, Copy)]
+#[derive(Clone, Copy, Debug, PartialEq, Eq)]
 pub enum Answer<C> {
     // So many acts stand.
     Stands(u8),
@@ -47,7 +47,7 @@ pub enum Answer<C> {
 }
 
 // A call with its answer.
-#[derive(Clone, Copy)]
+#[derive(Clone, Copy, Debug, PartialEq, Eq)]
 pub struct Event<C> {
     pub call: Call,
     pub answer: Answer<C>,

@@ -43,6 +43,7 @@ impl Search {
     }
 
     // The place as a part-sheet: the marks from the count upward are absent.
+    #[tactic(auto, unfolding(crate::specs::Searches::present_at, crate::specs::Searches::absent_at))]
     pub(crate) fn place(self, count: u8) -> PartSheet
         ensures present { result.present ≡ present_at count self }
         ensures absent { result.absent ≡ absent_at count self }

@@ -1,4 +1,4 @@
-use Rattle.std.proofs.Common.{◌≡◌, ◌+◌, ◌≤◌, length, Vec, vec_items, vec_capacity, refl, ◌∙◌, subst₂, arith}
+use Rattle.std.proofs.Common.{◌≡◌, ◌+◌, ◌≤◌, length, get_or, Vec, vec_items, vec_capacity, refl, ◌∙◌, subst₂, arith}
 use Rattle.sheets.specs.Judging.{Judging}
 use Rattle.sheets.specs.Scaling.{Scaling}
 use Rattle.orders.specs.declared.calls.Call.{Call}
@@ -23,8 +23,9 @@ loop-call-init g c = (along_none _ _ _ _ (acts_of c.begin.result.acts) c.begin.e
 pub loop-call-preserved : goal.loop-call-preserved
 loop-call-preserved g c =
     let inv = c.loop-call.invariant in
-    let next = turned_over g.J.Judge.judging g.S.Scale.scaling c.loop-call.order c.in-Some.next _ c.in-Some.answer _ _ c.in-Some.ensures inv.1 inv.2 in
-    (along_more _ _ _ _ _ _ _ _ _ (call.Pin 0) _ inv.0 c.loop-call-test.true next.0 c.push_reserved.ensures.items, next.1, next.2, c.push_reserved.ensures.capacity ∙ inv.3)
+    let called = get_or c.args.calls.now c.loop-call.call-index (call.Pin 0) in
+    let next = turned_over g.J.Judge.judging g.S.Scale.scaling c.loop-call.order c.in-Some.next called c.in-Some.answer c.args.judge c.args.scale c.in-Some.ensures inv.1 inv.2 in
+    (along_more _ _ _ _ _ (vec_items c.push_reserved.new.self) _ _ (state_of c.in-Some.next) (call.Pin 0) c.in-Some.answer inv.0 c.loop-call-test.true next.0 c.push_reserved.ensures.items, next.1, next.2, ◌∙◌ {a = vec_capacity c.push_reserved.new.self} c.push_reserved.ensures.capacity inv.3)
 
 -- a log of the same capacity has kept within the room
 within_room : {X Z : Type 0} (old new : Vec X Z) → vec_capacity new ≡ vec_capacity old → length (vec_items new) ≤ length (vec_items old) + room_of old
