@@ -4,7 +4,6 @@ use crate::ledger::{Ledger, number_of};
 use crate::tally::Tally;
 use orders::{Answer, Call, Event, Progress, Refusal};
 use sheets::Sheet;
-use std::alloc::{AllocError, Global};
 
 // A sheet that is shown, with its cost as the program's own.
 fn with_cost<C: Into<Cost>>(held: Option<(Sheet, C)>) -> Option<(Sheet, Cost)> {
@@ -79,21 +78,15 @@ impl Follower<'_> {
     }
 }
 
-pub fn follow<C: Copy + Into<Cost>>(
-    heap: Global,
-    case: &Case,
-    log: &[Event<C>],
-    tally: &mut Tally,
-) -> Result<(), AllocError> {
-    let ledger = Ledger::new(heap, case.count)?;
+pub fn follow<C: Copy + Into<Cost>>(case: &Case, log: &[Event<C>], tally: &mut Tally) {
+    let ledger = Ledger::new(case.count);
     let mut follower = Follower {
         case,
         ledger,
         shown: None,
     };
     for event in log {
-        tally.add_answer(event.answer)?;
+        tally.add_answer(event.answer);
         tally.expect(follower.take(*event));
     }
-    Ok(())
 }

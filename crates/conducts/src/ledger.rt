@@ -1,9 +1,7 @@
 // The rules of a docket, kept on a plain list of acts.
-ghost use Rattle.std.specs.Prelude.{◌≤◌, vec_capacity};
-
+use arrayvec::ArrayVec;
 use orders::{Act, Call, Refusal};
 use sheets::{Mark, Sheet};
-use std::alloc::{AllocError, Global};
 
 const MOST_ACTS: usize = 32;
 
@@ -22,14 +20,13 @@ pub fn number_of(refusal: Refusal) -> u8 {
 #[derive(Drop)]
 pub struct Ledger {
     count: u8,
-    acts: Vec<Act>,
-    ghost room: { 32 ≤ vec_capacity acts },
+    acts: ArrayVec<Act, MOST_ACTS>,
 }
 
 impl Ledger {
-    pub fn new(heap: Global, count: u8) -> Result<Ledger, AllocError> {
-        let acts = Vec::with_capacity(heap, MOST_ACTS)?;
-        Ok(Ledger { count, acts })
+    pub fn new(count: u8) -> Ledger {
+        let acts = ArrayVec::new();
+        Ledger { count, acts }
     }
 
     pub fn acts(&self) -> &[Act] {
@@ -62,10 +59,10 @@ impl Ledger {
             Act::Pin(mark) | Act::Bar(mark) => self.check_mark(mark)?,
             Act::Strike(sheet) => self.check_sheet(sheet)?,
         }
-        if self.acts.len() >= MOST_ACTS {
+        if self.acts.is_full() {
             return Err(Refusal::DocketFull);
         }
-        self.acts.push_reserved(act);
+        self.acts.push(act);
         Ok(self.acts.len())
     }
 

@@ -53,7 +53,8 @@ impl Runs {
         conduct(judge, scale, calls, &mut log);
         self.tally.add_run(calls.len());
         self.tally.expect(log.len() == script.answered.min(room));
-        follow(self.heap, case, log.as_slice(), &mut self.tally)
+        follow(case, log.as_slice(), &mut self.tally);
+        Ok(())
     }
 
     // A table, and the number of the sheet.
@@ -110,7 +111,7 @@ pub fn run_many(rt: &HostRuntime, seed: u64) -> anyhow::Result<Tally> {
     let mut runs = Runs {
         heap,
         random: Random::new(seed),
-        tally: Tally::new(heap),
+        tally: Tally::new(),
     };
     for number in 0..100u64 {
         runs.run_table()?;

@@ -1,19 +1,17 @@
 // What was conducted, in numbers.
 use orders::Answer;
-use std::alloc::{AllocError, Global};
-use std::collections::BTreeMap;
 use std::fmt::Formatter;
 use std::{fmt, io};
 
 // How many there were of each.
-#[derive(Drop)]
+#[derive(Clone, Copy)]
 pub struct Tally {
     runs: u64,
     calls: u64,
     events: u64,
     stands: u64,
-    // By the refusal's number.
-    refused: BTreeMap<u8, u64>,
+    // The number of each refusal, and how many had it.
+    refused: [(u8, u64); 5],
     moved: u64,
     advances: u64,
     steps: u64,
@@ -39,13 +37,13 @@ impl fmt::Display for Tally {
 }
 
 impl Tally {
-    pub fn new(heap: Global) -> Tally {
+    pub fn new() -> Tally {
         Tally {
             runs: 0,
             calls: 0,
             events: 0,
             stands: 0,
-            refused: BTreeMap::new(heap),
+            refused: [(21, 0), (22, 0), (24, 0), (25, 0), (26, 0)],
             moved: 0,
             advances: 0,
             steps: 0,
@@ -60,17 +58,19 @@ impl Tally {
         self.calls = self.calls.wrapping_add(calls as u64);
     }
 
-    fn add_refusal(&mut self, number: u8) -> Result<(), AllocError> {
-        let times = self.refused.entry(number)?.or_insert(0);
-        *times = times.wrapping_add(1);
-        Ok(())
+    fn add_refusal(&mut self, number: u8) {
+        for (known, times) in &mut self.refused {
+            if *known == number {
+                *times = times.wrapping_add(1);
+            }
+        }
     }
 
-    pub fn add_answer<C: Copy>(&mut self, answer: Answer<C>) -> Result<(), AllocError> {
+    pub fn add_answer<C: Copy>(&mut self, answer: Answer<C>) {
         self.events = self.events.wrapping_add(1);
         match answer {
             Answer::Stands(_) => self.stands = self.stands.wrapping_add(1),
-            Answer::Refused(why) => self.add_refusal(why.number())?,
+            Answer::Refused(why) => self.add_refusal(why.number()),
             Answer::Moved => self.moved = self.moved.wrapping_add(1),
             Answer::Shown(progress) => {
                 self.advances = self.advances.wrapping_add(1);
@@ -79,7 +79,6 @@ impl Tally {
             Answer::Final(Some(_)) => self.sheets = self.sheets.wrapping_add(1),
             Answer::Final(None) => self.none = self.none.wrapping_add(1),
         }
-        Ok(())
     }
 
     pub fn expect(&mut self, is_right: bool) {
@@ -103,7 +102,7 @@ impl Tally {
         println!(rt; "moves to another stage: {moved}")?;
         println!(rt; "advances: {advances}, with {steps} steps")?;
         println!(rt; "settlings: {sheets} with a sheet, {none} with no sheet")?;
-        for (number, times) in self.refused.iter() {
+        for (number, times) in &self.refused {
             println!(rt; "refused by {number}: {times}")?;
         }
         Ok(())
