@@ -37,6 +37,7 @@ pub trait Field: Drop + Sized {
     // How the bytes are read where the marks are below a count.
     ghost parser: { ℕ → Parser Meaning };
 
+    // Each reader says that the count stays, since no type says it of a field behind a `&mut`.
     fn read(body: &mut Body<'_>) -> Result<Self, Fault>
         ensures parses { Parses meaning (parser body.old.count body.old.rest.now) result body.new.rest.now }
         ensures kept { body.new.count ≡ body.old.count };

@@ -5,7 +5,7 @@ ghost use Rattle.rulefile.specs.Answers.{parsed_record, Shorter};
 
 use crate::refusals::Refusal;
 
-// A record: its kind, its body, and the bytes after it.
+// A record: the number of its kind, its body, and the bytes after it.
 #[derive(Drop)]
 pub struct Record<'a> {
     pub kind: u16,
@@ -35,6 +35,7 @@ fn short(bytes: &[u8]) -> Refusal
     }
 }
 
+// By a rule of the project one slice pattern names the length bytes, the kind bytes and the rest.
 #[tactic(auto, using(crate::proofs::Fields::little_4), unfolding(crate::specs::Format::cut))]
 pub(crate) fn cut(bytes: &[u8]) -> Result<Record<'_>, Refusal>
     ensures value { cut_spec bytes.now ≡ parsed_record result }
