@@ -59,12 +59,6 @@ dismissed_held (suc k) p held =
 pub next_held : (k p : ℕ) (held : Option ℕ) (x : Search) → x ≡ dismissed k p held → held ≡ x.held
 next_held k p held x e = sym (ap (λ y. y.held) e ∙ dismissed_held k p held)
 
-pub dismissed_few : (k p : ℕ) (held : Option ℕ) → (dismissed k p held).decided ≤ k
-dismissed_few zero p held = omega arith
-dismissed_few (suc k) p held =
-    cond_both (has p k) (dismissed k (p - 2 ^ k) held) (turned k p held) (λ y. y.decided ≤ suc k)
-    (λ e. let r = dismissed_few k (p - 2 ^ k) held in omega arith) (λ e. omega arith)
-
 pub dismissed_well : (k p : ℕ) (held : Option ℕ) → p < 2 ^ k → Well k (dismissed k p held)
 dismissed_well zero p held low = record { few = omega arith; low = omega arith }
 dismissed_well (suc k) p held low =

@@ -1,11 +1,10 @@
 -- One step by its three cases, and steps one after another.
-use Rattle.std.proofs.Common.{◌≡◌, ℕ, suc, ◌+◌, ◌<◌, ◌≤◌, true, false, cond, leb, Some, sym, refl, ap, ◌∙◌, subst, suc-add, zero-add, arith}
+use Rattle.std.proofs.Common.{◌≡◌, ℕ, suc, ◌+◌, ◌<◌, ◌≤◌, true, false, cond, leb, Some, sym, refl, ap, ◌∙◌, subst, suc-add, zero-add}
 use Rattle.std.proofs.lemmas.Bool.{both_ways, cond_both, cond-true, cond-false, le-leb, lt-leb, leb-true, leb-false}
 use Rattle.sheets.specs.Judging.{Judging}
 use Rattle.sheets.specs.Scaling.{Scaling}
 use Rattle.orders.specs.Search.{Search}
 use Rattle.orders.specs.Searches.{dismissed, dismisses, stepped, Steps, none, more}
-use Rattle.orders.proofs.Dismissals.{dismissed_held, dismissed_few}
 
 -- the next mark decided absent
 abbrev pub deeper : Search → Search
@@ -13,20 +12,13 @@ deeper x = record { decided = x.decided + 1; present = x.present; held = x.held;
 
 module _ {C : Type 0} (j : Judging) (s : Scaling C) where
   pub stepped_dismissed : (x : Search) → dismisses j s x ≡ true → stepped j s x ≡ dismissed x.decided x.present x.held
-  stepped_dismissed x t = cond-true (dismisses j s x) (dismissed x.decided x.present x.held)
-      (cond (leb j.count x.decided) (dismissed x.decided x.present (Some x.present)) (deeper x)) t
+  stepped_dismissed x t = cond-true _ _ _ t
 
   pub stepped_held : (x : Search) → dismisses j s x ≡ false → j.count ≤ x.decided → stepped j s x ≡ dismissed x.decided x.present (Some x.present)
-  stepped_held x f le =
-      cond-false (dismisses j s x) (dismissed x.decided x.present x.held)
-      (cond (leb j.count x.decided) (dismissed x.decided x.present (Some x.present)) (deeper x)) f
-      ∙ cond-true (leb j.count x.decided) (dismissed x.decided x.present (Some x.present)) (deeper x) (le-leb j.count x.decided le)
+  stepped_held x f le = cond-false _ _ _ f ∙ cond-true _ _ _ (le-leb j.count x.decided le)
 
   pub stepped_deeper : (x : Search) → dismisses j s x ≡ false → x.decided < j.count → stepped j s x ≡ deeper x
-  stepped_deeper x f lt =
-      cond-false (dismisses j s x) (dismissed x.decided x.present x.held)
-      (cond (leb j.count x.decided) (dismissed x.decided x.present (Some x.present)) (deeper x)) f
-      ∙ cond-false (leb j.count x.decided) (dismissed x.decided x.present (Some x.present)) (deeper x) (lt-leb j.count x.decided lt)
+  stepped_deeper x f lt = cond-false _ _ _ f ∙ cond-false _ _ _ (lt-leb j.count x.decided lt)
 
   -- what holds of each of the three
   pub step_cases : (x : Search) (P : Search → Type 0)
@@ -41,22 +33,6 @@ module _ {C : Type 0} (j : Judging) (s : Scaling C) where
       (λ f. cond_both (leb j.count x.decided) (dismissed x.decided x.present (Some x.present)) (deeper x) P
       (λ t. hold f (leb-true j.count x.decided t))
       (λ g. decide f (leb-false j.count x.decided g)))
-
-  -- ---- the place z that a step from x leads to, as the code makes it
-
-  pub by_dismissing : (x z : Search) → true ≡ dismisses j s x → z ≡ dismissed x.decided x.present x.held → (z ≡ stepped j s x) × (z.held ≡ x.held)
-  by_dismissing x z t e = (e ∙ sym (stepped_dismissed x (sym t)), ap (λ y. y.held) e ∙ dismissed_held x.decided x.present x.held)
-
-  pub by_holding : (x z : Search) → false ≡ dismisses j s x → j.count ≤ x.decided → z ≡ dismissed x.decided x.present (Some x.present)
-      → (z ≡ stepped j s x) × (z.held ≡ Some x.present)
-  by_holding x z f full e = (e ∙ sym (stepped_held x (sym f) full), ap (λ y. y.held) e ∙ dismissed_held x.decided x.present (Some x.present))
-
-  -- it keeps within n decisions
-  pub step_within : (n : ℕ) (x z : Search) → j.count ≤ n → x.decided ≤ n → z ≡ stepped j s x → z.decided ≤ n
-  step_within n x z le within e = subst (λ (y : Search). y.decided ≤ n) (sym e) (step_cases x (λ y. y.decided ≤ n)
-      (λ t. omega (arith, dismissed_few x.decided x.present x.held))
-      (λ f full. omega (arith, dismissed_few x.decided x.present (Some x.present)))
-      (λ f lt. omega arith))
 
   -- ---- steps one after another
 

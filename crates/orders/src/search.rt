@@ -15,6 +15,7 @@ pub struct Search {
     pub(crate) finished: bool,
 }
 
+// Contracts see the fields. No more marks are decided than a sheet has.
 impl Model for Search {
     ghost use Rattle.std.specs.Prelude.{◌≤◌};
     ghost use Rattle.sheets.specs.Sheets.{width};
