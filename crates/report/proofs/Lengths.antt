@@ -10,9 +10,7 @@ use Rattle.std.proofs.lemmas.List.FromFn.{get_or-range_with_len}
 use Rattle.std.proofs.lemmas.List.Sums.{length-filter, count_by-le-length}
 use Rattle.std.proofs.lemmas.Int.{ints}
 use Rattle.std.proofs.lemmas.Bool.{and_parts}
-use Rattle.sheets.specs.Lists.{all}
 use Rattle.sheets.specs.Sheets.{width, has}
-use Rattle.sheets.specs.Literals.{holds}
 use Rattle.rulefile.specs.declared.records.Act.{Act}
 use Rattle.rulefile.specs.declared.refusals.BadFile.{BadFile}
 use Rattle.rulefile.specs.declared.wishes.Wish.{Wish}
@@ -121,7 +119,11 @@ module _ (z n : ℕ) where
   abbrev sum : List Wish → ℤ
   sum ws = sum_at (wish_cost z) (map wish_of ws) n
 
-  part_bounds : (w : Wish) (b c : Bool) → (neg_ℤ (pos 10000) ≤ℤ cond b (cond c w.weight (pos 0)) (pos 0)) × (cond b (cond c w.weight (pos 0)) (pos 0) ≤ℤ pos 10000)
+  -- a weight, or its negative, is at most so much
+  abbrev Weighed : ℤ → Type 0
+  Weighed v = (neg_ℤ (pos 10000) ≤ℤ v) × (v ≤ℤ pos 10000)
+
+  part_bounds : (w : Wish) (b c : Bool) → Weighed (cond b (cond c w.weight (pos 0)) (pos 0))
   part_bounds w true true = let t = and_parts (le_z (negsuc 9999) w.weight) (le_z w.weight (pos 10000)) w.weighed in (grind (arith, ints, t.0), grind (arith, ints, t.1))
   part_bounds w true false = (omega (arith, ints), omega (arith, ints))
   part_bounds w false c = (omega (arith, ints), omega (arith, ints))
@@ -129,7 +131,7 @@ module _ (z n : ℕ) where
   sum_bounds : (ws : List Wish) → (neg_ℤ (pos (10000 * length ws)) ≤ℤ sum ws) × (sum ws ≤ℤ pos (10000 * length ws))
   sum_bounds [] = (omega (arith, ints), omega (arith, ints))
   sum_bounds (w ∷ ws) =
-      let first = part_bounds w (eqb w.level n) (all (holds z) (wish_of w).literals) in
+      let first : Weighed (cond (eqb w.level n) (wish_cost z (wish_of w)) (pos 0)) = part_bounds w _ _ in
       let rest = sum_bounds ws in
       (omega (arith, ints, first.0, rest.0), omega (arith, ints, first.1, rest.1))
 
