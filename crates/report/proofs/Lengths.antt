@@ -10,9 +10,7 @@ use Rattle.std.proofs.lemmas.List.FromFn.{get_or-range_with_len}
 use Rattle.std.proofs.lemmas.List.Sums.{length-filter, count_by-le-length}
 use Rattle.std.proofs.lemmas.Int.{ints}
 use Rattle.std.proofs.lemmas.Bool.{and_parts}
-use Rattle.std.specs.List.{list_all}
 use Rattle.sheets.specs.Sheets.{width, has}
-use Rattle.sheets.specs.Literals.{holds}
 use Rattle.rulefile.specs.declared.records.Act.{Act}
 use Rattle.rulefile.specs.declared.refusals.BadFile.{BadFile}
 use Rattle.rulefile.specs.declared.wishes.Wish.{Wish}
@@ -109,27 +107,31 @@ down_from_short : (n : ℕ) (g : ℕ → ℤ) → ((m : ℕ) → length (signed_
 down_from_short zero g short = All-nil (λ c. length (signed_decimal c) ≤ 11)
 down_from_short (suc n) g short = All-cons (λ c. length (signed_decimal c) ≤ 11) (g (suc n)) (down_from n g) (short (suc n)) (down_from_short n g short)
 
--- a sum of at most k weights
-within : (z : ℤ) (k : ℕ) → k ≤ 256 → neg_ℤ (pos (10000 * k)) ≤ℤ z → z ≤ℤ pos (10000 * k) → length (signed_decimal z) ≤ 11
-within z k le low high = length_signed_le 10 z (omega (arith, small z k le low high)) (omega (arith, small z k le low high))
+-- the number, or its negative, is at most k
+abbrev Within : ℕ → ℤ → Type 0
+Within k v = (neg_ℤ (pos k) ≤ℤ v) × (v ≤ℤ pos k)
+
+-- a sum of at most 256 weights
+sum_length : (z : ℤ) (k : ℕ) → k ≤ 256 → Within (10000 * k) z → length (signed_decimal z) ≤ 11
+sum_length z k le in_bounds = length_signed_le 10 z (omega (arith, small z k le in_bounds)) (omega (arith, small z k le in_bounds))
   where
-    small : (z : ℤ) (k : ℕ) → k ≤ 256 → neg_ℤ (pos (10000 * k)) ≤ℤ z → z ≤ℤ pos (10000 * k) → mag z ≤ 2560000
-    small (pos n) k le low high = omega (arith, ints)
-    small (negsuc n) k le low high = omega (arith, ints)
+    small : (z : ℤ) (k : ℕ) → k ≤ 256 → Within (10000 * k) z → mag z ≤ 2560000
+    small (pos n) k le in_bounds = omega (arith, ints, in_bounds.1)
+    small (negsuc n) k le in_bounds = omega (arith, ints, in_bounds.0)
 
 module _ (z n : ℕ) where
   abbrev sum : List Wish → ℤ
   sum ws = sum_at (wish_cost z) (map wish_of ws) n
 
-  part_bounds : (w : Wish) (b c : Bool) → (neg_ℤ (pos 10000) ≤ℤ cond b (cond c w.weight (pos 0)) (pos 0)) × (cond b (cond c w.weight (pos 0)) (pos 0) ≤ℤ pos 10000)
+  part_bounds : (w : Wish) (b c : Bool) → Within 10000 (cond b (cond c w.weight (pos 0)) (pos 0))
   part_bounds w true true = let t = and_parts (le_z (negsuc 9999) w.weight) (le_z w.weight (pos 10000)) w.weighed in (grind (arith, ints, t.0), grind (arith, ints, t.1))
   part_bounds w true false = (omega (arith, ints), omega (arith, ints))
   part_bounds w false c = (omega (arith, ints), omega (arith, ints))
 
-  sum_bounds : (ws : List Wish) → (neg_ℤ (pos (10000 * length ws)) ≤ℤ sum ws) × (sum ws ≤ℤ pos (10000 * length ws))
+  sum_bounds : (ws : List Wish) → Within (10000 * length ws) (sum ws)
   sum_bounds [] = (omega (arith, ints), omega (arith, ints))
   sum_bounds (w ∷ ws) =
-      let first = part_bounds w (eqb w.level n) (list_all (holds z) (wish_of w).literals) in
+      let first : Within 10000 (cond (eqb w.level n) (wish_cost z (wish_of w)) (pos 0)) = part_bounds w _ _ in
       let rest = sum_bounds ws in
       (omega (arith, ints, first.0, rest.0), omega (arith, ints, first.1, rest.1))
 
@@ -167,7 +169,7 @@ module _ (file : RuleFile) where
   answer_length None = omega arith
   answer_length (Some z) =
       let sums = sum_at (wish_cost z) (file_of file).wishes in
-      let each : (m : ℕ) → length (signed_decimal (sums m)) ≤ 11 = λ m. let b = sum_bounds z m file.wishes.items in within (sums m) (length file.wishes.items) few_wishes b.0 b.1 in
+      let each : (m : ℕ) → length (signed_decimal (sums m)) ≤ 11 = λ m. sum_length (sums m) (length file.wishes.items) few_wishes (sum_bounds z m file.wishes.items) in
       sheet_length z ((distance_of file.house).cost z) (down_from top sums) (length-spaced-le signed_decimal 11 (down_from top sums) (down_from_short top sums each)) (omega (arith, marks_where_le width (differ_at z file.house)))
 
   pub lines_short : (held : Option ℕ) → length (act_lines file.count [] file.acts.items ++ answer_line (file_of file) held) ≤ 4096

@@ -1,12 +1,12 @@
 -- The texts of lists, piece by piece.
-use Rattle.std.proofs.Common.{◌≡◌, ℕ, zero, suc, ◌+◌, ◌-◌, ◌*◌, ◌<◌, ◌≤◌, Bool, true, false, cond, List, [], ◌∷◌, ◌++◌, ℤ, decimal, filter, length, refl, ap, ◌∙◌, arith}
+use Rattle.std.proofs.Common.{◌≡◌, ℕ, zero, suc, ◌+◌, ◌-◌, ◌*◌, ◌<◌, ◌≤◌, true, false, List, [], ◌∷◌, ◌++◌, ℤ, decimal, filter, length, ap, arith}
 use Rattle.std.specs.List.{All, range_with_len}
 use Rattle.std.proofs.lemmas.List.Concat.{length-flat_map}
 use Rattle.std.proofs.lemmas.List.Sums.{sum_by-le}
 use Rattle.std.specs.Fmt.{signed_decimal}
 use Rattle.sheets.specs.Sheets.{width, has}
-use Rattle.scales.specs.Wishes.{top, down_from, cost_at}
-use Rattle.report.specs.Lines.{spaced, marks}
+use Rattle.scales.specs.Wishes.{down_from, cost_at}
+use Rattle.report.specs.Lines.{spaced}
 
 -- each text has at most k bytes
 pub length-spaced-le : {A : Type 0} (text : A → List ℕ) (k : ℕ) (xs : List A) → All (λ x. length (text x) ≤ k) xs → length (spaced text xs) ≤ length xs * (k + 1)
@@ -20,26 +20,17 @@ length-spaced-le text k xs short =
 unfoldable pub marks_left : ℕ → ℕ → List ℕ
 marks_left z i = spaced decimal (filter (has z) (range_with_len i (width - i)))
 
-pub marks_left_all : (z : ℕ) → marks_left z 0 ≡ spaced decimal (marks z)
-unfolding marks_left marks
-marks_left_all z = refl
-
--- whether z has the mark i
 module _ (z i : ℕ) (lt : i < width) where
-  kept : (b : Bool) → has z i ≡ b → marks_left z i ≡ spaced decimal (cond b (i ∷ filter (has z) (range_with_len (i + 1) (width - (i + 1)))) (filter (has z) (range_with_len (i + 1) (width - (i + 1)))))
-  unfolding marks_left
-  kept b e =
-      let more : width - i ≡ suc (width - (i + 1)) = omega arith in
-      ap (λ (k : ℕ). spaced decimal (filter (has z) (range_with_len i k))) more
-      ∙ ap (λ (c : Bool). spaced decimal (cond c (i ∷ filter (has z) (range_with_len (i + 1) (width - (i + 1)))) (filter (has z) (range_with_len (i + 1) (width - (i + 1)))))) e
+  one_less : width - i ≡ suc (width - (i + 1))
+  one_less = omega arith
 
   pub marks_left_there : has z i ≡ true → marks_left z i ≡ (32 ∷ []) ++ (decimal i ++ marks_left z (i + 1))
   unfolding marks_left spaced
-  marks_left_there t = kept true t
+  marks_left_there t = rw (one_less, t)
 
   pub marks_left_missing : has z i ≡ false → marks_left z i ≡ marks_left z (i + 1)
   unfolding marks_left
-  marks_left_missing f = kept false f
+  marks_left_missing f = rw (one_less, f)
 
 pub marks_left_none : (z i : ℕ) → width ≤ i → marks_left z i ≡ []
 unfolding marks_left spaced
@@ -50,10 +41,6 @@ marks_left_none z i le = let e : width - i ≡ 0 = omega arith in ap (λ (k : �
 -- the text of the costs at level n and below
 unfoldable pub levels_left : List ℤ → ℕ → List ℕ
 levels_left levels n = spaced signed_decimal (down_from n (cost_at levels))
-
-pub levels_left_all : (levels : List ℤ) → levels_left levels top ≡ spaced signed_decimal (down_from top (cost_at levels))
-unfolding levels_left
-levels_left_all levels = refl
 
 pub levels_left_more : (levels : List ℤ) (n : ℕ) → 1 ≤ n → levels_left levels n ≡ (32 ∷ []) ++ (signed_decimal (cost_at levels n) ++ levels_left levels (n - 1))
 unfolding levels_left spaced

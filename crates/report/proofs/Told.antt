@@ -114,14 +114,14 @@ module _ (j : Judging) (s : Scaling Cost) (room : ℕ) (calls : List Call) (log 
       }
 
   rest_told : (acts : List Act) (before rest : List (Event Cost)) → log ≡ before ++ rest → calls_of rest ≡ calls_for acts → Told j s n (docket n (calls_of before)) acts (log_text rest)
-  rest_told [] before [] here called = absurd (let z : ◌≡◌ {A = ℕ} 0 2 = ap length called in omega arith)
-  rest_told [] before (e ∷ []) here called = absurd (let z : ◌≡◌ {A = ℕ} 1 2 = ap length called in omega arith)
+  rest_told [] before [] here called = absurd (cc)
+  rest_told [] before (e ∷ []) here called = absurd (cc)
   rest_told [] before (e ∷ f ∷ []) here called =
       let seeks : e.call ≡ Seek = cc in
       let settles : f.call ≡ Settle = cc in
       ends_told before e f here seeks settles
-  rest_told [] before (e ∷ f ∷ g ∷ more) here called = absurd (let z : suc (suc (suc (length (calls_of more)))) ≡ 2 = ap length called in omega arith)
-  rest_told (a ∷ acts) before [] here called = absurd (let z : 0 ≡ suc (length (calls_for acts)) = ap length called in omega arith)
+  rest_told [] before (e ∷ f ∷ g ∷ more) here called = absurd (cc)
+  rest_told (a ∷ acts) before [] here called = absurd (cc)
   rest_told (a ∷ acts) before (e ∷ more) here called =
       let same : e.call ≡ call_of a = cc in
       let others : calls_of more ≡ calls_for acts = cc in
@@ -143,7 +143,7 @@ pub lines_told : (f : FileModel) (room : ℕ) (calls : List Call) (log : List (E
 lines_told f room calls log kept e enough =
     let same : min f.count f.count ≡ f.count = omega arith in
     let t = subst (λ (m : ℕ). Told (judge_of f) (scale_of f) m [] f.acts (log_text log)) same (told (judge_of f) (scale_of f) room calls log kept f.acts e enough) in
-    (t.held, t.best, t.lines ∙ ap (λ (l : List ℕ). act_lines f.count [] f.acts ++ l) (answer_told f t.held))
+    (t.held, t.best, rw answer_told at t.lines)
 
 -- the log of a conducted order, over judges and scales of the file
 pub conducted_told : (f a b d : FileModel) (h room : ℕ) (calls : List Call) (before after : List (Event Cost)) → a ≡ f → b ≡ f → d ≡ f → h ≡ f.house

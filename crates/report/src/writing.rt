@@ -11,7 +11,7 @@ use rulefile::BadFile;
 use scales::LevelCost;
 use sheets::{Sheet, WIDTH, has_mark};
 
-// A buffer, and how many bytes at its front are written. No second buffer: each text is copied straight into this one.
+// A buffer, and how many bytes at its front are written. Each text is copied straight into it: there is no second buffer.
 #[derive(Drop)]
 pub(crate) struct Writer<'a> {
     out: &'a mut [u8],
@@ -44,7 +44,8 @@ impl<'a> Writer<'a> {
         self.len = end;
     }
 
-    // The number in decimal: what its tenth is written as, and its last digit.
+    // The number in decimal: what its tenth is written as, and its last digit. std's formatter would write the digits
+    // into a buffer of its own first.
     fn number(&mut self, n: u32)
         requires { Fits self.old (decimal n) }
         ensures { Writes self.old (decimal n) self.new }

@@ -3,7 +3,7 @@ use Rattle.std.specs.Fmt.{signed_decimal}
 use Rattle.std.proofs.lemmas.Int.{to_z-of_z}
 use Rattle.scales.specs.Wishes.{cost_at}
 use Rattle.report.proofs.Pieces.{fits_like, writes_like, left_all, left_first, left_more, left_none}
-use Rattle.report.proofs.Texts.{levels_left, levels_left_all, levels_left_more, levels_left_none}
+use Rattle.report.proofs.Texts.{levels_left, levels_left_more, levels_left_none}
 use Rattle.report.proofs.writing.Writer.levels.Goals as goal
 
 -- the cost as it is read back
@@ -14,7 +14,8 @@ pub returns : goal.returns
 returns c = left_none (levels_left_none c.args.cost.levels c.loop-level.level c.loop-level-test.false) c.loop-level.invariant
 
 pub loop-level-init : goal.loop-level-init
-loop-level-init c = left_all (sym (levels_left_all c.args.cost.levels)) c.requires
+unfolding levels_left
+loop-level-init c = left_all refl c.requires
 
 pub text-requires : goal.text-requires
 text-requires c =

@@ -1,9 +1,9 @@
-use Rattle.std.proofs.Common.{◌≡◌, ℕ, ◌+◌, ◌<◌, ◌≤◌, List, [], ◌++◌, length, get_or, drop, sym, refl, ap, ◌∙◌}
+use Rattle.std.proofs.Common.{◌≡◌, ℕ, ◌+◌, ◌<◌, ◌≤◌, List, [], ◌++◌, length, get_or, drop, sym, ap, ◌∙◌}
 use Rattle.std.proofs.lemmas.List.{at_drop_more, at_drop_all}
 use Rattle.scales.specs.declared.cost.LevelCost.{LevelCost}
 use Rattle.orders.specs.declared.calls.Event.{Event}
 use Rattle.report.specs.Logs.{answer_text, log_text}
-use Rattle.report.proofs.Pieces.{left_all, left_first, left_more, left_none}
+use Rattle.report.proofs.Pieces.{left_first, left_more, left_none}
 use Rattle.report.proofs.writing.Writer.log.Goals as goal
 
 -- e is what stands at i
@@ -14,9 +14,6 @@ first log i e lt is = at_drop_more log_text log i e lt ∙ ap (λ (x : Event (Le
 none : (log : List (Event (LevelCost × ℕ))) (i : ℕ) → length log ≤ i → log_text (drop i log) ≡ []
 unfolding log_text
 none log i le = at_drop_all log_text log i le
-
-pub loop-event-init : goal.loop-event-init
-loop-event-init c = left_all refl c.requires
 
 pub answer-requires : goal.answer-requires
 answer-requires c =

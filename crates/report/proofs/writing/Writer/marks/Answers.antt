@@ -1,11 +1,13 @@
 use Rattle.std.proofs.Common.{◌+◌, [], ◌∷◌, ◌++◌, decimal, sym, refl, ap, ◌∙◌}
+use Rattle.report.specs.Lines.{marks}
 use Rattle.report.proofs.Pieces.{fits_like, writes_like, left_all, left_like, left_first, left_more, left_none}
-use Rattle.report.proofs.Texts.{marks_left, marks_left_all, marks_left_there, marks_left_missing, marks_left_none}
+use Rattle.report.proofs.Texts.{marks_left, marks_left_there, marks_left_missing, marks_left_none}
 use Rattle.report.proofs.writing.Writer.marks.Goals as goal
 use Rattle.report.proofs.writing.Writer.marks.Goals.{then-has_mark, else-has_mark}
 
 pub loop-mark-init : goal.loop-mark-init
-loop-mark-init c = left_all (sym (marks_left_all c.args.sheet)) c.requires
+unfolding marks_left marks
+loop-mark-init c = left_all refl c.requires
 
 pub text-requires : goal.text-requires
 text-requires c =
