@@ -10,7 +10,6 @@ mod words;
 use anyhow::anyhow;
 use house::HouseText;
 use rulefile::{BadFile, ReadError, RuleFile, input_limit, read};
-use scales::{Distance, Levels};
 use std::io::Read;
 use std::rc::Rc;
 use text::FileText;
@@ -25,13 +24,8 @@ fn input(rt: &HostRuntime) -> anyhow::Result<Vec<u8>> {
 // The records of the file, and what is said of its house sheet.
 fn list_file(rt: &HostRuntime, file: RuleFile) -> anyhow::Result<()> {
     let file = Rc::new(rt.alloc(), file)?;
-    let levels = Levels::new(file.clone()?);
     let text = FileText { file: &file };
-    let house = HouseText {
-        file: &file,
-        cost: levels.cost(file.house),
-        distance: Distance::new(file.house).cost(file.house),
-    };
+    let house = HouseText::new(&file)?;
     print!(rt; "{text}{house}")?;
     Ok(())
 }

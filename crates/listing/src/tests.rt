@@ -3,7 +3,6 @@ use crate::house::HouseText;
 use crate::text::FileText;
 use crate::words::refusal_words;
 use rulefile::{ReadError, read};
-use scales::{Distance, Levels};
 use std::process::Abort;
 use std::rc::Rc;
 use std::test::Fail;
@@ -23,16 +22,9 @@ fn check_listing(
     let heap = rt.alloc();
     let mut bytes = head(house).to_vec(heap)?;
     bytes.extend_from_slice(records)?;
-    let Ok(read) = read(heap, bytes.as_slice()) else {
-        return Err(Fail::new("the file is refused"));
-    };
-    let file = Rc::new(heap, read)?;
+    let file = Rc::new(heap, read(heap, bytes.as_slice())?)?;
     let text = FileText { file: &file };
-    let house = HouseText {
-        file: &file,
-        cost: Levels::new(file.clone()?).cost(file.house),
-        distance: Distance::new(file.house).cost(file.house),
-    };
+    let house = HouseText::new(&file)?;
     let listed = format!(in heap; "{text}{house}")?;
     assert_eq!(rt; listed.as_str(), lines);
     Ok(())

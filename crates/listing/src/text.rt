@@ -1,164 +1,169 @@
 // A rule file as text, a line for each record, in file order. docs/TEXT.md has the grammar.
-use rulefile::{Act, Clause, Constraint, Kind, Rule, RuleFile, Wish};
+ghost use Rattle.std.specs.Iterator.{IsFinite};
+
+use rulefile::{Act, Clause, Constraint, Element, Kind, Rule, RuleFile, Wish};
 use sheets::{Literal, Sheet, WIDTH, has_mark};
-use std::fmt;
 use std::fmt::Formatter;
+use std::iter::Zip;
+use std::ops::Range;
+use std::{fmt, slice};
 
-// The marks upward, in braces.
-fn add_sheet<W: fmt::Write>(f: &mut Formatter<W>, sheet: Sheet) -> fmt::Result {
-    f.write_str("{")?;
-    let mut is_first = true;
-    for mark in 0..WIDTH {
-        if has_mark(sheet, mark) {
-            if !is_first {
-                f.write_str(", ")?;
-            }
-            write!(f, "{mark}")?;
-            is_first = false;
-        }
-    }
-    f.write_str("}")
-}
-
-fn add_literal<W: fmt::Write>(f: &mut Formatter<W>, literal: Literal) -> fmt::Result {
-    let mark = literal.mark;
-    if literal.negated {
-        write!(f, "not {mark}")?;
-    } else {
-        write!(f, "{mark}")?;
-    }
-    Ok(())
-}
-
-// The literals with a word between them.
-fn add_literals<W: fmt::Write>(
+// Writes the items, with the text between each and the next.
+fn write_between<W: fmt::Write, I: Iterator>(
     f: &mut Formatter<W>,
-    literals: &[Literal],
-    word: &str,
-) -> fmt::Result {
-    let mut between = "";
-    for literal in literals {
-        f.write_str(between)?;
-        add_literal(f, *literal)?;
-        between = word;
+    mut items: I,
+    between: &str,
+) -> fmt::Result
+where
+    I: Drop,
+    I::Item: fmt::Display + Drop,
+    requires can { I.can_next items }
+    requires ends { IsFinite (I.remaining items) }
+{
+    let Some(first) = items.next() else {
+        return Ok(());
+    };
+    write!(f, "{first}")?;
+    for item in items {
+        write!(f, "{between}{item}")?;
     }
     Ok(())
 }
 
-fn add_bounds<W: fmt::Write>(f: &mut Formatter<W>, low: u32, high: Option<u32>) -> fmt::Result {
-    match high {
-        Some(most) => write!(f, "{low} to {most} of ")?,
-        None => write!(f, "{low} or more of ")?,
+// Displays the marks of a sheet upward, in braces.
+#[derive(Clone, Copy)]
+struct SheetText(Sheet);
+
+impl fmt::Display for SheetText {
+    fn fmt<W: fmt::Write>(&self, f: &mut Formatter<W>) -> fmt::Result {
+        let sheet = self.0;
+        f.write_str("{")?;
+        write_between(f, (0..WIDTH).filter(|mark| has_mark(sheet, *mark)), ", ")?;
+        f.write_str("}")
     }
-    Ok(())
 }
 
-fn add_constraint<W: fmt::Write>(f: &mut Formatter<W>, constraint: &Constraint) -> fmt::Result {
-    add_bounds(f, constraint.low, constraint.high)?;
-    f.write_str("{")?;
-    let mut between = "";
-    for element in constraint.elements.as_slice() {
-        f.write_str(between)?;
-        add_literal(f, element.literal)?;
-        let weight = element.weight;
-        write!(f, "={weight}")?;
-        between = ", ";
+#[derive(Clone, Copy)]
+struct LiteralText(Literal);
+
+impl fmt::Display for LiteralText {
+    fn fmt<W: fmt::Write>(&self, f: &mut Formatter<W>) -> fmt::Result {
+        let Literal { mark, negated } = self.0;
+        let not = if negated { "not " } else { "" };
+        write!(f, "{not}{mark}")
     }
-    f.write_str("}")
 }
 
-pub fn add_rule<W: fmt::Write>(f: &mut Formatter<W>, number: usize, rule: &Rule) -> fmt::Result {
-    write!(f, "rule {number}: ")?;
-    add_constraint(f, &rule.head)?;
-    let mut between = " if ";
-    for constraint in rule.body.as_slice() {
-        f.write_str(between)?;
-        add_constraint(f, constraint)?;
-        between = " and ";
+#[derive(Clone, Copy)]
+struct ElementText(Element);
+
+impl fmt::Display for ElementText {
+    fn fmt<W: fmt::Write>(&self, f: &mut Formatter<W>) -> fmt::Result {
+        let literal = LiteralText(self.0.literal);
+        let weight = self.0.weight;
+        write!(f, "{literal}={weight}")
     }
-    Ok(())
 }
 
-fn add_clause<W: fmt::Write>(f: &mut Formatter<W>, clause: &Clause) -> fmt::Result {
+#[derive(Clone, Copy)]
+struct ConstraintText<'a>(&'a Constraint);
+
+impl fmt::Display for ConstraintText<'_> {
+    fn fmt<W: fmt::Write>(&self, f: &mut Formatter<W>) -> fmt::Result {
+        let low = self.0.low;
+        match self.0.high {
+            Some(most) => write!(f, "{low} to {most} of {{")?,
+            None => write!(f, "{low} or more of {{")?,
+        }
+        write_between(f, self.0.elements.iter().copied().map(ElementText), ", ")?;
+        f.write_str("}")
+    }
+}
+
+// Displays a record after the head.
+#[derive(Clone, Copy)]
+pub enum RecordText<'a> {
+    // With its number.
+    Rule(usize, &'a Rule),
+    Clause(&'a Clause),
+    Wish(&'a Wish),
+    Act(Act),
+}
+
+fn write_rule<W: fmt::Write>(f: &mut Formatter<W>, number: usize, rule: &Rule) -> fmt::Result {
+    let head = ConstraintText(&rule.head);
+    write!(f, "rule {number}: {head}")?;
+    if !rule.body.is_empty() {
+        f.write_str(" if ")?;
+    }
+    write_between(f, rule.body.iter().map(ConstraintText), " and ")
+}
+
+fn write_clause<W: fmt::Write>(f: &mut Formatter<W>, clause: &Clause) -> fmt::Result {
     f.write_str("clause: ")?;
     if clause.literals.is_empty() {
-        return f.write_str("nothing");
+        f.write_str("nothing")?;
     }
-    add_literals(f, clause.literals.as_slice(), " or ")
+    write_between(f, clause.literals.iter().copied().map(LiteralText), " or ")
 }
 
-fn add_wish<W: fmt::Write>(f: &mut Formatter<W>, wish: &Wish) -> fmt::Result {
+fn write_wish<W: fmt::Write>(f: &mut Formatter<W>, wish: &Wish) -> fmt::Result {
     let level = wish.level;
     let weight = wish.weight;
     write!(f, "wish: level {level}, weight {weight}, if ")?;
-    add_literals(f, wish.literals.as_slice(), " and ")
+    write_between(f, wish.literals.iter().copied().map(LiteralText), " and ")
 }
 
-fn add_act<W: fmt::Write>(f: &mut Formatter<W>, act: Act) -> fmt::Result {
-    f.write_str("act: ")?;
-    match act {
-        Act::Pin(mark) => write!(f, "pin {mark}")?,
-        Act::Bar(mark) => write!(f, "bar {mark}")?,
-        Act::Strike(sheet) => {
-            f.write_str("strike ")?;
-            add_sheet(f, sheet)?;
+impl fmt::Display for RecordText<'_> {
+    fn fmt<W: fmt::Write>(&self, f: &mut Formatter<W>) -> fmt::Result {
+        match *self {
+            RecordText::Rule(number, rule) => write_rule(f, number, rule),
+            RecordText::Clause(clause) => write_clause(f, clause),
+            RecordText::Wish(wish) => write_wish(f, wish),
+            RecordText::Act(Act::Pin(mark)) => write!(f, "act: pin {mark}"),
+            RecordText::Act(Act::Bar(mark)) => write!(f, "act: bar {mark}"),
+            RecordText::Act(Act::Strike(sheet)) => {
+                let sheet = SheetText(sheet);
+                write!(f, "act: strike {sheet}")
+            }
+            RecordText::Act(Act::Undo) => f.write_str("act: undo"),
         }
-        Act::Undo => f.write_str("undo")?,
     }
-    Ok(())
 }
 
-fn add_head<W: fmt::Write>(f: &mut Formatter<W>, file: &RuleFile) -> fmt::Result {
-    let count = file.count;
-    write!(f, "head: {count} marks, house sheet ")?;
-    add_sheet(f, file.house)?;
-    f.write_str("\n")
-}
-
-// How many records of each kind are listed.
+// The records of each kind that are still to come.
 #[derive(Drop)]
-struct Listed {
-    rules: usize,
-    clauses: usize,
-    wishes: usize,
-    acts: usize,
+struct Records<'a> {
+    // With their numbers.
+    rules: Zip<Range<usize>, slice::Iter<'a, Rule>>,
+    clauses: slice::Iter<'a, Clause>,
+    wishes: slice::Iter<'a, Wish>,
+    acts: slice::Iter<'a, Act>,
 }
 
-// The next record of the kind.
-fn add_next<W: fmt::Write>(
-    f: &mut Formatter<W>,
-    file: &RuleFile,
-    listed: &mut Listed,
-    kind: Kind,
-) -> fmt::Result {
-    match kind {
-        Kind::Head => {}
-        Kind::Rule => {
-            if let Some(rule) = file.rules.get(listed.rules) {
-                add_rule(f, listed.rules, rule)?;
-                listed.rules += 1;
-            }
-        }
-        Kind::Clause => {
-            if let Some(clause) = file.clauses.get(listed.clauses) {
-                add_clause(f, clause)?;
-                listed.clauses += 1;
-            }
-        }
-        Kind::Wish => {
-            if let Some(wish) = file.wishes.get(listed.wishes) {
-                add_wish(f, wish)?;
-                listed.wishes += 1;
-            }
-        }
-        Kind::Act => {
-            if let Some(act) = file.acts.get(listed.acts) {
-                add_act(f, *act)?;
-                listed.acts += 1;
-            }
+impl<'a> Records<'a> {
+    fn new(file: &'a RuleFile) -> Records<'a> {
+        Records {
+            rules: (0..file.rules.len()).zip(file.rules.iter()),
+            clauses: file.clauses.iter(),
+            wishes: file.wishes.iter(),
+            acts: file.acts.iter(),
         }
     }
-    f.write_str("\n")
+
+    // The next record of the kind.
+    fn next(&mut self, kind: Kind) -> Option<RecordText<'a>> {
+        match kind {
+            Kind::Head => None,
+            Kind::Rule => {
+                let (number, rule) = self.rules.next()?;
+                Some(RecordText::Rule(number, rule))
+            }
+            Kind::Clause => Some(RecordText::Clause(self.clauses.next()?)),
+            Kind::Wish => Some(RecordText::Wish(self.wishes.next()?)),
+            Kind::Act => Some(RecordText::Act(*self.acts.next()?)),
+        }
+    }
 }
 
 // Displays a file in words.
@@ -169,15 +174,15 @@ pub struct FileText<'a> {
 
 impl fmt::Display for FileText<'_> {
     fn fmt<W: fmt::Write>(&self, f: &mut Formatter<W>) -> fmt::Result {
-        add_head(f, self.file)?;
-        let mut listed = Listed {
-            rules: 0,
-            clauses: 0,
-            wishes: 0,
-            acts: 0,
-        };
-        for kind in self.file.order.as_slice() {
-            add_next(f, self.file, &mut listed, *kind)?;
+        let count = self.file.count;
+        let house = SheetText(self.file.house);
+        writeln!(f, "head: {count} marks, house sheet {house}")?;
+        let mut records = Records::new(self.file);
+        for kind in self.file.order.iter() {
+            if let Some(record) = records.next(*kind) {
+                write!(f, "{record}")?;
+            }
+            f.write_str("\n")?;
         }
         Ok(())
     }

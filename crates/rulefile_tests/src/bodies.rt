@@ -1,6 +1,6 @@
-// Refusals of a body: 17, 18 and 19, in the order of its fields.
+// Refusals of a body, in the order of its fields.
 use crate::build::*;
-use std::alloc::Global;
+use rulefile::Refusal::{BodyLength, MarkRange, OutOfRange};
 use std::process::Abort;
 use std::test::Fail;
 
@@ -19,33 +19,32 @@ const GOOD: [(u16, &[u8]); 8] = [
     (ACT, &[4]),
 ];
 
-// The body is good. A body that ends before its last field does, or goes on after it, is 17.
-fn check_lengths(rt: &impl Abort, heap: Global, kind: u16, body: &[u8]) -> Result<(), Fail> {
-    check_record(rt, heap, kind, body, READ)?;
+// The body is good. A body that ends before its last field does, or goes on after it, has a wrong length.
+fn check_lengths(rt: &(impl Abort + AllocGlobal), kind: u16, body: &[u8]) -> Result<(), Fail> {
+    check_record(rt, kind, body, Ok(()))?;
     for n in 0..body.len() {
-        check_record(rt, heap, kind, &body[0..n], 17)?;
+        check_record(rt, kind, &body[0..n], Err(BodyLength))?;
     }
-    let mut longer = body.to_vec(heap)?;
+    let mut longer = body.to_vec(rt.alloc())?;
     longer.push(0)?;
-    check_record(rt, heap, kind, longer.as_slice(), 17)
+    check_record(rt, kind, longer.as_slice(), Err(BodyLength))
 }
 
 #[test]
 fn body_length(rt: HostRuntime) -> Result<(), Fail> {
     for (kind, body) in &GOOD {
-        check_lengths(&rt, rt.alloc(), *kind, *body)?;
+        check_lengths(&rt, *kind, *body)?;
     }
     Ok(())
 }
 
 #[test]
 fn head_length(rt: HostRuntime) -> Result<(), Fail> {
-    let heap = rt.alloc();
     let body = [4, 0, 0, 0, 0, 0, 0, 0, 0, 0];
-    check_head(&rt, heap, &body[0..9], READ)?;
-    check_head(&rt, heap, &body, 17)?;
+    check_head(&rt, &body[0..9], Ok(()))?;
+    check_head(&rt, &body, Err(BodyLength))?;
     for n in 0..9 {
-        check_head(&rt, heap, &body[0..n], 17)?;
+        check_head(&rt, &body[0..n], Err(BodyLength))?;
     }
     Ok(())
 }
@@ -53,24 +52,24 @@ fn head_length(rt: HostRuntime) -> Result<(), Fail> {
 // The count and the house sheet of a head.
 #[test]
 fn head_fields(rt: HostRuntime) -> Result<(), Fail> {
-    let cases: [(&[u8], u8); 14] = [
-        (&[0], 18),
-        (&[65], 18),
-        (&[128], 18),
-        (&[0, 0, 0, 0, 0, 0, 0, 0, 0], 18),
-        (&[1, 0, 0, 0, 0, 0, 0, 0, 0], READ),
-        (&[1, 1, 0, 0, 0, 0, 0, 0, 0], READ),
-        (&[1, 2, 0, 0, 0, 0, 0, 0, 0], 19),
-        (&[4, 15, 0, 0, 0, 0, 0, 0, 0], READ),
-        (&[4, 16, 0, 0, 0, 0, 0, 0, 0], 19),
-        (&[4, 16, 0, 0, 0, 0, 0, 0, 0, 0], 19),
-        (&[63, 255, 255, 255, 255, 255, 255, 255, 127], READ),
-        (&[63, 0, 0, 0, 0, 0, 0, 0, 128], 19),
-        (&[64, 255, 255, 255, 255, 255, 255, 255, 255], READ),
-        (&[65, 0, 0, 0, 0, 0, 0, 0, 0], 18),
+    let cases: [(&[u8], Answer); 14] = [
+        (&[0], Err(OutOfRange)),
+        (&[65], Err(OutOfRange)),
+        (&[128], Err(OutOfRange)),
+        (&[0, 0, 0, 0, 0, 0, 0, 0, 0], Err(OutOfRange)),
+        (&[1, 0, 0, 0, 0, 0, 0, 0, 0], Ok(())),
+        (&[1, 1, 0, 0, 0, 0, 0, 0, 0], Ok(())),
+        (&[1, 2, 0, 0, 0, 0, 0, 0, 0], Err(MarkRange)),
+        (&[4, 15, 0, 0, 0, 0, 0, 0, 0], Ok(())),
+        (&[4, 16, 0, 0, 0, 0, 0, 0, 0], Err(MarkRange)),
+        (&[4, 16, 0, 0, 0, 0, 0, 0, 0, 0], Err(MarkRange)),
+        (&[63, 255, 255, 255, 255, 255, 255, 255, 127], Ok(())),
+        (&[63, 0, 0, 0, 0, 0, 0, 0, 128], Err(MarkRange)),
+        (&[64, 255, 255, 255, 255, 255, 255, 255, 255], Ok(())),
+        (&[65, 0, 0, 0, 0, 0, 0, 0, 0], Err(OutOfRange)),
     ];
-    for (body, number) in &cases {
-        check_head(&rt, rt.alloc(), *body, *number)?;
+    for (body, expected) in &cases {
+        check_head(&rt, *body, *expected)?;
     }
     Ok(())
 }
@@ -78,47 +77,56 @@ fn head_fields(rt: HostRuntime) -> Result<(), Fail> {
 // A field is tested as soon as it is read, whatever comes after it.
 #[test]
 fn rule_fields(rt: HostRuntime) -> Result<(), Fail> {
-    let cases: [(&[u8], u8); 10] = [
-        (&[9], 18),
-        (&[255], 18),
-        (&[0, 0, 0, 0, 0, 0, 0, 0, 0, 33], 18),
-        (&[0, 0, 0, 0, 0, 0, 0, 0, 0, 1, 4], 19),
-        (&[0, 0, 0, 0, 0, 0, 0, 0, 0, 1, 132], 19),
-        (&[0, 0, 0, 0, 0, 0, 0, 0, 0, 1, 127, 0, 0], 19),
-        (&[0, 0, 0, 0, 0, 0, 0, 0, 0, 2, 3, 0, 0, 255], 19),
-        (&[0, 0, 0, 0, 0, 0, 0, 0, 0, 1, 131, 0], 17),
-        (b"\x01\0\0\0\0\0\0\0\0\0\0\0\0\0\0\0\0\0\x21", 18),
-        (b"\x01\0\0\0\0\0\0\0\0\0\0\0\0\0\0\0\0\0\x01\x04", 19),
+    let cases: [(&[u8], Answer); 10] = [
+        (&[9], Err(OutOfRange)),
+        (&[255], Err(OutOfRange)),
+        (&[0, 0, 0, 0, 0, 0, 0, 0, 0, 33], Err(OutOfRange)),
+        (&[0, 0, 0, 0, 0, 0, 0, 0, 0, 1, 4], Err(MarkRange)),
+        (&[0, 0, 0, 0, 0, 0, 0, 0, 0, 1, 132], Err(MarkRange)),
+        (&[0, 0, 0, 0, 0, 0, 0, 0, 0, 1, 127, 0, 0], Err(MarkRange)),
+        (
+            &[0, 0, 0, 0, 0, 0, 0, 0, 0, 2, 3, 0, 0, 255],
+            Err(MarkRange),
+        ),
+        (&[0, 0, 0, 0, 0, 0, 0, 0, 0, 1, 131, 0], Err(BodyLength)),
+        (
+            b"\x01\0\0\0\0\0\0\0\0\0\0\0\0\0\0\0\0\0\x21",
+            Err(OutOfRange),
+        ),
+        (
+            b"\x01\0\0\0\0\0\0\0\0\0\0\0\0\0\0\0\0\0\x01\x04",
+            Err(MarkRange),
+        ),
     ];
-    for (body, number) in &cases {
-        check_record(&rt, rt.alloc(), RULE, *body, *number)?;
+    for (body, expected) in &cases {
+        check_record(&rt, RULE, *body, *expected)?;
     }
     Ok(())
 }
 
 #[test]
 fn other_fields(rt: HostRuntime) -> Result<(), Fail> {
-    let cases: [(u16, &[u8], u8); 17] = [
-        (CLAUSE, &[33], 18),
-        (CLAUSE, &[255, 4], 18),
-        (CLAUSE, &[2, 4], 19),
-        (CLAUSE, &[2, 0, 132], 19),
-        (CLAUSE, &[1, 4, 0], 19),
-        (CLAUSE, &[2, 3], 17),
-        (WISH, &[0], 18),
-        (WISH, &[9], 18),
-        (WISH, &[1, 17, 39], 18),
-        (WISH, &[1, 239, 216], 18),
-        (WISH, &[1, 17], 17),
-        (WISH, &[1, 0, 0, 0], 18),
-        (WISH, &[1, 0, 0, 17], 18),
-        (WISH, &[1, 0, 0, 2, 4], 19),
-        (WISH, &[1, 0, 0, 1, 132, 0], 19),
-        (ACT, &[0], 18),
-        (ACT, &[5], 18),
+    let cases: [(u16, &[u8], Answer); 17] = [
+        (CLAUSE, &[33], Err(OutOfRange)),
+        (CLAUSE, &[255, 4], Err(OutOfRange)),
+        (CLAUSE, &[2, 4], Err(MarkRange)),
+        (CLAUSE, &[2, 0, 132], Err(MarkRange)),
+        (CLAUSE, &[1, 4, 0], Err(MarkRange)),
+        (CLAUSE, &[2, 3], Err(BodyLength)),
+        (WISH, &[0], Err(OutOfRange)),
+        (WISH, &[9], Err(OutOfRange)),
+        (WISH, &[1, 17, 39], Err(OutOfRange)),
+        (WISH, &[1, 239, 216], Err(OutOfRange)),
+        (WISH, &[1, 17], Err(BodyLength)),
+        (WISH, &[1, 0, 0, 0], Err(OutOfRange)),
+        (WISH, &[1, 0, 0, 17], Err(OutOfRange)),
+        (WISH, &[1, 0, 0, 2, 4], Err(MarkRange)),
+        (WISH, &[1, 0, 0, 1, 132, 0], Err(MarkRange)),
+        (ACT, &[0], Err(OutOfRange)),
+        (ACT, &[5], Err(OutOfRange)),
     ];
-    for (kind, body, number) in &cases {
-        check_record(&rt, rt.alloc(), *kind, *body, *number)?;
+    for (kind, body, expected) in &cases {
+        check_record(&rt, *kind, *body, *expected)?;
     }
     Ok(())
 }

@@ -1,9 +1,10 @@
 // Builds files, and checks what the reader answers.
-use rulefile::{ReadError, RuleFile, read};
+use rulefile::{BadFile, ReadError, Refusal, RuleFile, read};
 use std::alloc::{AllocError, Global};
 use std::process::Abort;
 use std::test::Fail;
 
+// The numbers by which a file knows the kinds of its records. Tests write records of numbers that no kind has, too.
 pub const HEAD: u16 = 1;
 
 pub const RULE: u16 = 2;
@@ -14,8 +15,8 @@ pub const WISH: u16 = 4;
 
 pub const ACT: u16 = 5;
 
-// In the place of a refusal's number: the file is read.
-pub const READ: u8 = 0;
+// That a file is read, or why it is refused.
+pub type Answer = Result<(), Refusal>;
 
 // A head with count 4 and an empty house sheet.
 const HEAD_ONLY: &[u8; 15] = b"\x0b\0\0\0\x01\0\x04\0\0\0\0\0\0\0\0";
@@ -33,7 +34,7 @@ pub fn add_record(file: &mut Vec<u8>, kind: u16, body: &[u8]) -> Result<(), Allo
 
 // Adds `n` equal records.
 pub fn add_records(file: &mut Vec<u8>, n: usize, kind: u16, body: &[u8]) -> Result<(), AllocError> {
-    for _i in 0..n {
+    for _ in 0..n {
         add_record(file, kind, body)?;
     }
     Ok(())
@@ -55,27 +56,21 @@ fn file_of(heap: Global, count: u8, records: &[(u16, &[u8])]) -> Result<Vec<u8>,
     Ok(file)
 }
 
-// Adds `n` equal parts.
-pub fn add_times(to: &mut Vec<u8>, n: usize, part: &[u8]) -> Result<(), AllocError> {
-    for _i in 0..n {
-        to.extend_from_slice(part)?;
-    }
-    Ok(())
-}
-
-// Adds a constraint that always holds, with so many elements of mark 0.
-fn add_constraint(body: &mut Vec<u8>, elements: u8) -> Result<(), AllocError> {
-    body.extend_from_slice(&[0, 0, 0, 0, 255, 255, 255, 255, elements])?;
-    add_times(body, usize::from(elements), &[0, 1, 0])
+// A constraint that always holds, with so many elements of mark 0.
+fn constraint(heap: Global, elements: u8) -> Result<Vec<u8>, AllocError> {
+    let mut bytes = vec![in heap; 0, 0, 0, 0, 255, 255, 255, 255, elements]?;
+    let listed = [0, 1, 0].repeat(heap, usize::from(elements))?;
+    bytes.extend_from_slice(listed.as_slice())?;
+    Ok(bytes)
 }
 
 // The body of a rule with so many body constraints, and so many elements in each constraint.
 pub fn rule_body(heap: Global, constraints: u8, elements: u8) -> Result<Vec<u8>, AllocError> {
-    let mut body = Vec::new(heap);
-    body.push(constraints)?;
-    add_constraint(&mut body, elements)?;
-    for _i in 0..constraints {
-        add_constraint(&mut body, elements)?;
+    let one = constraint(heap, elements)?;
+    let mut body = vec![in heap; constraints]?;
+    body.extend_from_slice(one.as_slice())?;
+    for _ in 0..constraints {
+        body.extend_from_slice(one.as_slice())?;
     }
     Ok(body)
 }
@@ -84,27 +79,14 @@ pub fn rule_body(heap: Global, constraints: u8, elements: u8) -> Result<Vec<u8>,
 pub fn with_literals(heap: Global, first: &[u8], literals: u8) -> Result<Vec<u8>, AllocError> {
     let mut body = first.to_vec(heap)?;
     body.push(literals)?;
-    add_times(&mut body, usize::from(literals), &[0])?;
+    body.extend_from_slice([0].repeat(heap, usize::from(literals))?.as_slice())?;
     Ok(body)
-}
-
-// What is read of a file that is not refused.
-pub fn accepted(heap: Global, bytes: &[u8]) -> Result<RuleFile, Fail> {
-    match read(heap, bytes) {
-        Ok(file) => Ok(file),
-        Err(ReadError::Refused(bad)) => {
-            let number = bad.why.number();
-            let at = bad.at;
-            Err(Fail::new(format_args!("refused {number} at {at}")))
-        }
-        Err(ReadError::Memory) => Err(Fail::new("no memory")),
-    }
 }
 
 // What is read of a head with this count and then these records.
 pub fn accepted_of(heap: Global, count: u8, records: &[(u16, &[u8])]) -> Result<RuleFile, Fail> {
     let file = file_of(heap, count, records)?;
-    accepted(heap, file.as_slice())
+    Ok(read(heap, file.as_slice())?)
 }
 
 // The item of a list that should have one.
@@ -115,69 +97,69 @@ pub fn only<T>(items: &[T]) -> Result<&T, Fail> {
     }
 }
 
-// The number of the refusal and its offset; `READ` and 0 where there is none.
-fn answer(heap: Global, bytes: &[u8]) -> Result<(u8, u32), Fail> {
-    match read(heap, bytes) {
-        Ok(_) => Ok((READ, 0)),
-        Err(ReadError::Refused(bad)) => Ok((bad.why.number(), bad.at)),
-        Err(ReadError::Memory) => Err(Fail::new("no memory")),
-    }
+// The answer for the record at the offset.
+pub fn at(offset: u32, answer: Answer) -> Result<(), BadFile> {
+    answer.map_err(|why| BadFile { why, at: offset })
 }
 
-// The file is answered by this number, and where it is refused, at this offset.
+// The file is answered so.
 pub fn check_file(
-    rt: &impl Abort,
-    heap: Global,
+    rt: &(impl Abort + AllocGlobal),
     bytes: &[u8],
-    number: u8,
-    at: u32,
+    expected: Result<(), BadFile>,
 ) -> Result<(), Fail> {
-    let expected = if number == READ {
-        (READ, 0)
-    } else {
-        (number, at)
-    };
     let size = bytes.len();
-    assert_eq!(rt; answer(heap, bytes)?, expected, "{size} bytes: {bytes:?}");
+    let answer = read(rt.alloc(), bytes).map(|_| ());
+    assert_eq!(rt;
+        answer,
+        expected.map_err(ReadError::Refused),
+        "{size} bytes: {bytes:?}"
+    );
     Ok(())
 }
 
-// What begins with `start` and goes on with these bytes is answered by this number at the end of `start`.
+// What begins with `start` and goes on with a record of these bytes is answered so, at the offset of that record.
 fn check_after(
-    rt: &impl Abort,
-    heap: Global,
+    rt: &(impl Abort + AllocGlobal),
     start: &[u8],
-    at: u32,
+    offset: u32,
     bytes: &[u8],
-    number: u8,
+    expected: Answer,
 ) -> Result<(), Fail> {
-    let mut file = start.to_vec(heap)?;
+    let mut file = start.to_vec(rt.alloc())?;
     file.extend_from_slice(bytes)?;
-    check_file(rt, heap, file.as_slice(), number, at)
+    check_file(rt, file.as_slice(), at(offset, expected))
 }
 
 // These bytes are answered so after a head with count 4, and also after a head and an undo.
-pub fn check_later(rt: &impl Abort, heap: Global, bytes: &[u8], number: u8) -> Result<(), Fail> {
-    check_after(rt, heap, HEAD_ONLY, 15, bytes, number)?;
-    check_after(rt, heap, HEAD_AND_UNDO, 22, bytes, number)
+pub fn check_later(
+    rt: &(impl Abort + AllocGlobal),
+    bytes: &[u8],
+    expected: Answer,
+) -> Result<(), Fail> {
+    check_after(rt, HEAD_ONLY, 15, bytes, expected)?;
+    check_after(rt, HEAD_AND_UNDO, 22, bytes, expected)
 }
 
 // A record after the head is answered so.
 pub fn check_record(
-    rt: &impl Abort,
-    heap: Global,
+    rt: &(impl Abort + AllocGlobal),
     kind: u16,
     body: &[u8],
-    number: u8,
+    expected: Answer,
 ) -> Result<(), Fail> {
-    let mut bytes = Vec::new(heap);
+    let mut bytes = Vec::new(rt.alloc());
     add_record(&mut bytes, kind, body)?;
-    check_later(rt, heap, bytes.as_slice(), number)
+    check_later(rt, bytes.as_slice(), expected)
 }
 
 // A head with this body is answered so.
-pub fn check_head(rt: &impl Abort, heap: Global, body: &[u8], number: u8) -> Result<(), Fail> {
-    let mut file = Vec::new(heap);
+pub fn check_head(
+    rt: &(impl Abort + AllocGlobal),
+    body: &[u8],
+    expected: Answer,
+) -> Result<(), Fail> {
+    let mut file = Vec::new(rt.alloc());
     add_record(&mut file, HEAD, body)?;
-    check_file(rt, heap, file.as_slice(), number, 0)
+    check_file(rt, file.as_slice(), at(0, expected))
 }

@@ -1,31 +1,34 @@
 // Refusals that do not depend on a field of a body.
 use crate::build::*;
+use rulefile::Refusal::{
+    BodyLength, HeadMisplaced, LengthPastEnd, LengthRange, OutOfRange, RecordCut, UnknownKind,
+};
 use std::test::Fail;
 
 // Faults of the first record are at 0.
 #[test]
 fn first_record(rt: HostRuntime) -> Result<(), Fail> {
-    let cases: [(&[u8], u8); 17] = [
-        (&[], 11),
-        (&[11], 11),
-        (&[11, 0], 11),
-        (&[11, 0, 0], 11),
-        (&[0, 0, 0, 0], 12),
-        (&[1, 0, 0, 0], 12),
-        (&[1, 0, 0, 0, 1], 12),
-        (&[1, 0, 0, 0, 1, 0], 12),
-        (&[2, 0, 0, 0], 13),
-        (&[2, 0, 0, 0, 1], 13),
-        (&[3, 0, 0, 0, 1, 0], 13),
-        (&[2, 0, 0, 0, 0, 0], 14),
-        (&[2, 0, 0, 0, 6, 0], 14),
-        (&[2, 0, 0, 0, 1, 1], 14),
-        (&[2, 0, 0, 0, 2, 0], 15),
-        (&[3, 0, 0, 0, 5, 0, 4], 15),
-        (&[2, 0, 0, 0, 1, 0], 17),
+    let cases: [(&[u8], Answer); 17] = [
+        (&[], Err(RecordCut)),
+        (&[11], Err(RecordCut)),
+        (&[11, 0], Err(RecordCut)),
+        (&[11, 0, 0], Err(RecordCut)),
+        (&[0, 0, 0, 0], Err(LengthRange)),
+        (&[1, 0, 0, 0], Err(LengthRange)),
+        (&[1, 0, 0, 0, 1], Err(LengthRange)),
+        (&[1, 0, 0, 0, 1, 0], Err(LengthRange)),
+        (&[2, 0, 0, 0], Err(LengthPastEnd)),
+        (&[2, 0, 0, 0, 1], Err(LengthPastEnd)),
+        (&[3, 0, 0, 0, 1, 0], Err(LengthPastEnd)),
+        (&[2, 0, 0, 0, 0, 0], Err(UnknownKind)),
+        (&[2, 0, 0, 0, 6, 0], Err(UnknownKind)),
+        (&[2, 0, 0, 0, 1, 1], Err(UnknownKind)),
+        (&[2, 0, 0, 0, 2, 0], Err(HeadMisplaced)),
+        (&[3, 0, 0, 0, 5, 0, 4], Err(HeadMisplaced)),
+        (&[2, 0, 0, 0, 1, 0], Err(BodyLength)),
     ];
-    for (bytes, number) in &cases {
-        check_file(&rt, rt.alloc(), *bytes, *number, 0)?;
+    for (bytes, expected) in &cases {
+        check_file(&rt, *bytes, at(0, *expected))?;
     }
     Ok(())
 }
@@ -33,28 +36,31 @@ fn first_record(rt: HostRuntime) -> Result<(), Fail> {
 // A file may end after any record. Faults of a later record are at its own offset.
 #[test]
 fn later_record(rt: HostRuntime) -> Result<(), Fail> {
-    let cases: [(&[u8], u8); 18] = [
-        (&[], READ),
-        (&[1], 11),
-        (&[1, 1], 11),
-        (&[1, 1, 1], 11),
-        (&[0, 0, 0, 0], 12),
-        (&[1, 0, 0, 0], 12),
-        (&[1, 0, 0, 0, 5], 12),
-        (&[1, 0, 0, 0, 5, 0, 4], 12),
-        (&[3, 0, 1, 0, 5, 0, 4], 12),
-        (&[255, 255, 255, 255, 5, 0, 4], 12),
-        (&[2, 0, 0, 0], 13),
-        (&[2, 0, 0, 0, 6], 13),
-        (&[4, 0, 0, 0, 6, 0, 4], 13),
-        (&[2, 0, 0, 0, 0, 0], 14),
-        (&[2, 0, 0, 0, 6, 0], 14),
-        (&[3, 0, 0, 0, 5, 1, 4], 14),
-        (&[2, 0, 0, 0, 1, 0], 15),
-        (&[11, 0, 0, 0, 1, 0, 4, 0, 0, 0, 0, 0, 0, 0, 0], 15),
+    let cases: [(&[u8], Answer); 18] = [
+        (&[], Ok(())),
+        (&[1], Err(RecordCut)),
+        (&[1, 1], Err(RecordCut)),
+        (&[1, 1, 1], Err(RecordCut)),
+        (&[0, 0, 0, 0], Err(LengthRange)),
+        (&[1, 0, 0, 0], Err(LengthRange)),
+        (&[1, 0, 0, 0, 5], Err(LengthRange)),
+        (&[1, 0, 0, 0, 5, 0, 4], Err(LengthRange)),
+        (&[3, 0, 1, 0, 5, 0, 4], Err(LengthRange)),
+        (&[255, 255, 255, 255, 5, 0, 4], Err(LengthRange)),
+        (&[2, 0, 0, 0], Err(LengthPastEnd)),
+        (&[2, 0, 0, 0, 6], Err(LengthPastEnd)),
+        (&[4, 0, 0, 0, 6, 0, 4], Err(LengthPastEnd)),
+        (&[2, 0, 0, 0, 0, 0], Err(UnknownKind)),
+        (&[2, 0, 0, 0, 6, 0], Err(UnknownKind)),
+        (&[3, 0, 0, 0, 5, 1, 4], Err(UnknownKind)),
+        (&[2, 0, 0, 0, 1, 0], Err(HeadMisplaced)),
+        (
+            &[11, 0, 0, 0, 1, 0, 4, 0, 0, 0, 0, 0, 0, 0, 0],
+            Err(HeadMisplaced),
+        ),
     ];
-    for (bytes, number) in &cases {
-        check_later(&rt, rt.alloc(), *bytes, *number)?;
+    for (bytes, expected) in &cases {
+        check_later(&rt, *bytes, *expected)?;
     }
     Ok(())
 }
@@ -62,25 +68,24 @@ fn later_record(rt: HostRuntime) -> Result<(), Fail> {
 // A fault in a body comes before one in the framing of the next record.
 #[test]
 fn earlier_body_first(rt: HostRuntime) -> Result<(), Fail> {
-    check_later(&rt, rt.alloc(), &[3, 0, 0, 0, 5, 0, 0, 1], 18)?;
-    check_later(&rt, rt.alloc(), &[2, 0, 0, 0, 5, 0, 0, 0, 0, 0, 0, 0], 17)
+    check_later(&rt, &[3, 0, 0, 0, 5, 0, 0, 1], Err(OutOfRange))?;
+    check_later(&rt, &[2, 0, 0, 0, 5, 0, 0, 0, 0, 0, 0, 0], Err(BodyLength))
 }
 
-// A body of 1,022 bytes has the length 1,024. That passes, and another fault is found. A byte more is 12.
+// A body of 1,022 bytes has the length 1,024. That passes, and another fault is found. A byte more is outside its range.
 #[test]
 fn length_1024_and_1025(rt: HostRuntime) -> Result<(), Fail> {
-    for (kind, n, number) in [
-        (RULE, 1022, 17),
-        (CLAUSE, 1022, 17),
-        (6, 1022, 14),
-        (HEAD, 1022, 15),
-        (RULE, 1023, 12),
-        (6, 1023, 12),
-        (HEAD, 1023, 12),
+    for (kind, n, expected) in [
+        (RULE, 1022, Err(BodyLength)),
+        (CLAUSE, 1022, Err(BodyLength)),
+        (6, 1022, Err(UnknownKind)),
+        (HEAD, 1022, Err(HeadMisplaced)),
+        (RULE, 1023, Err(LengthRange)),
+        (6, 1023, Err(LengthRange)),
+        (HEAD, 1023, Err(LengthRange)),
     ] {
-        let mut body = Vec::new(rt.alloc());
-        add_times(&mut body, n, &[0])?;
-        check_record(&rt, rt.alloc(), kind, body.as_slice(), number)?;
+        let body = vec![in rt.alloc(); 0; n]?;
+        check_record(&rt, kind, body.as_slice(), expected)?;
     }
     Ok(())
 }

@@ -1,6 +1,8 @@
 // The sizes of files, and how many records of a kind they have.
 use crate::build::*;
 use crate::values::sizes;
+use rulefile::Refusal::{FileTooLong, LengthPastEnd, TooManyOfKind};
+use rulefile::read;
 use std::alloc::{AllocError, Global};
 use std::process::Abort;
 use std::test::Fail;
@@ -13,19 +15,24 @@ const SMALLEST: [(u16, &[u8], u32); 4] = [
     (ACT, &[4], 1807),
 ];
 
-// 256 records of a kind are read. The next is 16 at its own offset, here with no body.
-fn check_kind(rt: &impl Abort, heap: Global, kind: u16, body: &[u8], at: u32) -> Result<(), Fail> {
-    let mut file = head_alone(heap, 4)?;
+// 256 records of a kind are read. The next is refused at its own offset, here with no body.
+fn check_kind(
+    rt: &(impl Abort + AllocGlobal),
+    kind: u16,
+    body: &[u8],
+    offset: u32,
+) -> Result<(), Fail> {
+    let mut file = head_alone(rt.alloc(), 4)?;
     add_records(&mut file, 256, kind, body)?;
-    check_file(rt, heap, file.as_slice(), READ, 0)?;
+    check_file(rt, file.as_slice(), Ok(()))?;
     add_record(&mut file, kind, &[])?;
-    check_file(rt, heap, file.as_slice(), 16, at)
+    check_file(rt, file.as_slice(), at(offset, Err(TooManyOfKind)))
 }
 
 #[test]
 fn broken_record_257(rt: HostRuntime) -> Result<(), Fail> {
-    for (kind, body, at) in &SMALLEST {
-        check_kind(&rt, rt.alloc(), *kind, *body, *at)?;
+    for (kind, body, offset) in &SMALLEST {
+        check_kind(&rt, *kind, *body, *offset)?;
     }
     Ok(())
 }
@@ -34,12 +41,12 @@ fn broken_record_257(rt: HostRuntime) -> Result<(), Fail> {
 fn good_record_257(rt: HostRuntime) -> Result<(), Fail> {
     let mut file = head_alone(rt.alloc(), 4)?;
     add_records(&mut file, 257, ACT, &[4])?;
-    check_file(&rt, rt.alloc(), file.as_slice(), 16, 1807)
+    check_file(&rt, file.as_slice(), at(1807, Err(TooManyOfKind)))
 }
 
 fn most_records(heap: Global) -> Result<Vec<u8>, AllocError> {
     let mut file = head_alone(heap, 4)?;
-    for (kind, body, _at) in &SMALLEST {
+    for (kind, body, _) in &SMALLEST {
         add_records(&mut file, 256, *kind, *body)?;
     }
     Ok(file)
@@ -49,7 +56,7 @@ fn most_records(heap: Global) -> Result<Vec<u8>, AllocError> {
 #[test]
 fn records_of_all_kinds(rt: HostRuntime) -> Result<(), Fail> {
     let bytes = most_records(rt.alloc())?;
-    let file = accepted(rt.alloc(), bytes.as_slice())?;
+    let file = read(rt.alloc(), bytes.as_slice())?;
     assert_eq!(rt; sizes(&file), (256, 256, 256, 256));
     Ok(())
 }
@@ -68,14 +75,14 @@ fn longest_file(heap: Global) -> Result<Vec<u8>, AllocError> {
     Ok(file)
 }
 
-// A byte more is 10, before the byte is looked at. A byte less cuts the last record.
+// A byte more is too long, before the byte is looked at. A byte less cuts the last record.
 #[test]
 fn file_32768_and_32769(rt: HostRuntime) -> Result<(), Fail> {
     let mut file = longest_file(rt.alloc())?;
     assert_eq!(rt; file.len(), 32_768);
-    check_file(&rt, rt.alloc(), file.as_slice(), READ, 0)?;
+    check_file(&rt, file.as_slice(), Ok(()))?;
     file.push(0)?;
-    check_file(&rt, rt.alloc(), file.as_slice(), 10, 0)?;
+    check_file(&rt, file.as_slice(), at(0, Err(FileTooLong)))?;
     file.truncate(32_767);
-    check_file(&rt, rt.alloc(), file.as_slice(), 13, 32_734)
+    check_file(&rt, file.as_slice(), at(32_734, Err(LengthPastEnd)))
 }

@@ -1,6 +1,6 @@
 // What is read of good files.
 use crate::build::*;
-use rulefile::{Act, Kind, Refusal, RuleFile, read_or_head_alone};
+use rulefile::{Act, Kind, Refusal, RuleFile, read, read_or_head_alone};
 use sheets::Literal;
 use std::process::Abort;
 use std::test::Fail;
@@ -103,7 +103,7 @@ fn check_worked(rt: &impl Abort, file: &RuleFile) -> Result<(), Fail> {
 
 #[test]
 fn worked_example(rt: HostRuntime) -> Result<(), Fail> {
-    check_worked(&rt, &accepted(rt.alloc(), WORKED)?)
+    check_worked(&rt, &read(rt.alloc(), WORKED)?)
 }
 
 // A good file is read as itself.
@@ -121,7 +121,7 @@ fn check_head_alone(rt: &impl Abort, file: &RuleFile) {
 #[test]
 fn refused_or_head_alone(rt: HostRuntime) -> Result<(), Fail> {
     let bytes = b"\x0b\0\0\0\x01\0\x04\0\0\0\0\0\0\0\0\x03\0\0\0\x04\0\x01";
-    check_file(&rt, rt.alloc(), bytes, 17, 15)?;
+    check_file(&rt, bytes, at(15, Err(Refusal::BodyLength)))?;
     check_head_alone(&rt, &read_or_head_alone(rt.alloc(), bytes)?);
     Ok(())
 }
@@ -225,7 +225,7 @@ fn acts(rt: HostRuntime) -> Result<(), Fail> {
 #[test]
 fn house_sheet(rt: HostRuntime) -> Result<(), Fail> {
     let bytes = b"\x0b\0\0\0\x01\0\x40\x01\x02\x03\x04\x05\x06\x07\x08";
-    let file = accepted(rt.alloc(), bytes)?;
+    let file = read(rt.alloc(), bytes)?;
     assert_eq!(rt; (file.count, file.house), (64, 0x0807_0605_0403_0201));
     Ok(())
 }
