@@ -5,15 +5,12 @@ mod house;
 #[cfg(test)]
 mod tests;
 mod text;
-mod words;
 
-use anyhow::anyhow;
 use house::HouseText;
 use rulefile::{BadFile, ReadError, RuleFile, input_limit, read};
 use std::io::Read;
 use std::rc::Rc;
 use text::FileText;
-use words::refusal_words;
 
 fn input(rt: &HostRuntime) -> anyhow::Result<Vec<u8>> {
     let mut bytes = Vec::new(rt.alloc());
@@ -32,10 +29,8 @@ fn list_file(rt: &HostRuntime, file: RuleFile) -> anyhow::Result<()> {
 
 // The refusal, and what it means.
 fn list_refusal(rt: &HostRuntime, bad: BadFile) -> anyhow::Result<()> {
-    let number = bad.why.number();
-    let at = bad.at;
-    let words = refusal_words(bad.why);
-    println!(rt; "refused {number} at {at}")?;
+    let words = bad.why;
+    println!(rt; "{bad}")?;
     println!(rt; "{words}")?;
     Ok(())
 }
@@ -45,7 +40,7 @@ fn run(rt: &HostRuntime) -> anyhow::Result<()> {
     match read(rt.alloc(), bytes.as_slice()) {
         Ok(file) => list_file(rt, file),
         Err(ReadError::Refused(bad)) => list_refusal(rt, bad),
-        Err(ReadError::Memory) => Err(anyhow!("no memory to read the file")),
+        Err(error) => Err(error.into()),
     }
 }
 

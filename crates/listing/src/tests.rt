@@ -1,7 +1,6 @@
 // Lines that the stored file does not show.
 use crate::house::HouseText;
 use crate::text::FileText;
-use crate::words::refusal_words;
 use rulefile::{ReadError, read};
 use std::process::Abort;
 use std::rc::Rc;
@@ -56,13 +55,11 @@ fn broken_house(rt: HostRuntime) -> Result<(), Fail> {
 
 // The bytes are refused with these words.
 fn check_words(rt: &(impl Abort + AllocGlobal), bytes: &[u8], words: &str) -> Result<(), Fail> {
-    match read(rt.alloc(), bytes) {
-        Err(ReadError::Refused(bad)) => {
-            assert_eq!(rt; refusal_words(bad.why), words);
-            Ok(())
-        },
-        _ => Err(Fail::new("the file is not refused")),
-    }
+    let Err(ReadError::Refused(bad)) = read(rt.alloc(), bytes) else {
+        return Err(Fail::new("the file is not refused"));
+    };
+    assert_eq!(rt; bad.why.to_string(rt.alloc())?.as_str(), words);
+    Ok(())
 }
 
 #[test]

@@ -1,5 +1,4 @@
 // What the reader makes of a file, as text, and whether that is what a report says.
-use anyhow::bail;
 use rulefile::{BadFile, ReadError, RuleFile, read};
 use std::alloc::{AllocError, Global};
 use std::fmt;
@@ -48,7 +47,7 @@ pub fn outcome_of(heap: Global, bytes: &[u8]) -> anyhow::Result<Result<Sizes, Ba
     match read(heap, bytes) {
         Ok(file) => Ok(Ok(Sizes::from(&file))),
         Err(ReadError::Refused(bad)) => Ok(Err(bad)),
-        Err(ReadError::Memory) => bail!("memory is wanting"),
+        Err(error) => Err(error.into()),
     }
 }
 
@@ -56,11 +55,7 @@ pub fn outcome_of(heap: Global, bytes: &[u8]) -> anyhow::Result<Result<Sizes, Ba
 pub fn line_of(heap: Global, outcome: Result<Sizes, BadFile>) -> Result<String, AllocError> {
     match outcome {
         Ok(sizes) => format!(in heap; "{sizes}"),
-        Err(bad) => {
-            let number = bad.why.number();
-            let at = bad.at;
-            format!(in heap; "refused {number} at {at}")
-        }
+        Err(bad) => format!(in heap; "{bad}"),
     }
 }
 
