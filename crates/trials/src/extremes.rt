@@ -1,6 +1,5 @@
 // Files of wishes at the limits of weights and levels.
 use crate::costs::try_costs;
-use anyhow::anyhow;
 use rulefile::{RuleFile, read};
 use scales::Levels;
 use std::alloc::{AllocError, Global};
@@ -84,10 +83,7 @@ impl Wishes {
                 self.add_one(&mut bytes, level)?;
             }
         }
-        match read(heap, bytes.as_slice()) {
-            Ok(file) => Ok(file),
-            Err(_) => Err(anyhow!("the file is not read")),
-        }
+        Ok(read(heap, bytes.as_slice())?)
     }
 
     // What the sheet {0} costs, from level 8 down.
