@@ -11,7 +11,7 @@ fn check_pins(rt: &(impl Abort + AllocGlobal), marks: &[u8], lines: &str) -> Res
         file.extend_from_slice(&[4, 0, 0, 0, 5, 0, 1, *mark])?;
     }
     let lines = format!(in heap; "{lines}{ALL_MARKS} 0 0 0 0 0 0 0 0 off 64\n")?;
-    check_report(rt, heap, file.as_slice(), lines.as_str())
+    check_report(rt, file.as_slice(), lines.as_str())
 }
 
 #[test]
@@ -21,10 +21,7 @@ fn mark_63_and_64(rt: HostRuntime) -> Result<(), Fail> {
 
 #[test]
 fn act_32_and_33(rt: HostRuntime) -> Result<(), Fail> {
-    let mut marks = Vec::new(rt.alloc());
-    for mark in 0..33 {
-        marks.push(mark)?;
-    }
+    let marks: Vec<u8> = (0..33).collect(rt.alloc())?;
     let mut lines = "ok\n".repeat(rt.alloc(), 32)?;
     lines.push_str("refused 25\n")?;
     check_pins(&rt, marks.as_slice(), lines.as_str())

@@ -40,9 +40,9 @@ pub fn all_marks(heap: Global) -> Result<Vec<u8>, AllocError> {
 }
 
 // The report on the file has these lines.
-pub fn check_report(rt: &impl Abort, heap: Global, file: &[u8], lines: &str) -> Result<(), Fail> {
-    let mut buffer = vec![in heap; 0; LEAST_BUFFER]?;
-    let length = report(heap, file, &mut buffer)?;
+pub fn check_report(rt: &(impl Abort + AllocGlobal), file: &[u8], lines: &str) -> Result<(), Fail> {
+    let mut buffer = vec![in rt.alloc(); 0; LEAST_BUFFER]?;
+    let length = report(rt.alloc(), file, &mut buffer)?;
     assert_eq!(rt; length, lines.len());
     buffer.truncate(length);
     assert_eq!(rt; buffer.as_slice(), lines.as_bytes());

@@ -5,30 +5,29 @@ use std::test::Fail;
 
 #[test]
 fn worked_example(rt: HostRuntime) -> Result<(), Fail> {
-    check_report(&rt, rt.alloc(), WORKED, WORKED_LINES)
+    check_report(&rt, WORKED, WORKED_LINES)
 }
 
 #[test]
 fn bad_file(rt: HostRuntime) -> Result<(), Fail> {
-    check_report(&rt, rt.alloc(), BAD, "refused 17 at 15\n")
+    check_report(&rt, BAD, "refused 17 at 15\n")
 }
 
 // A head alone allows the empty sheet. After a clause without literals there is no sheet.
 #[test]
 fn empty_sheet_and_none(rt: HostRuntime) -> Result<(), Fail> {
     let head = b"\x0b\0\0\0\x01\0\x01\0\0\0\0\0\0\0\0";
-    check_report(&rt, rt.alloc(), head, "sheet cost 0 0 0 0 0 0 0 0 off 0\n")?;
+    check_report(&rt, head, "sheet cost 0 0 0 0 0 0 0 0 off 0\n")?;
     let mut file = head.to_vec(rt.alloc())?;
     file.extend_from_slice(b"\x03\0\0\0\x03\0\0")?;
-    check_report(&rt, rt.alloc(), file.as_slice(), "no sheet\n")
+    check_report(&rt, file.as_slice(), "no sheet\n")
 }
 
 // Adds so many wishes of weight -10,000 at the level, if mark 0 is there.
-fn add_wishes(file: &mut Vec<u8>, level: u8, times: u8) -> Result<(), AllocError> {
-    for _ in 0..times {
-        file.extend_from_slice(&[7, 0, 0, 0, 4, 0, level, 240, 216, 1, 0])?;
-    }
-    Ok(())
+fn add_wishes(file: &mut Vec<u8>, level: u8, times: usize) -> Result<(), AllocError> {
+    let wish = [7, 0, 0, 0, 4, 0, level, 240, 216, 1, 0];
+    let wishes = wish.repeat(*file.allocator(), times)?;
+    file.extend_from_slice(wishes.as_slice())
 }
 
 // 256 undos that are refused, and a sheet line than which none is longer: it has all marks, a distance of two digits, and
@@ -56,5 +55,5 @@ fn longest_report(rt: HostRuntime) -> Result<(), Fail> {
     lines.push_str(" -100000".repeat(heap, 7)?.as_str())?;
     lines.push_str(" off 64\n")?;
     assert_eq!(rt; lines.len(), 3081);
-    check_report(&rt, heap, longest_file(heap)?.as_slice(), lines.as_str())
+    check_report(&rt, longest_file(heap)?.as_slice(), lines.as_str())
 }
