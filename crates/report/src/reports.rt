@@ -26,7 +26,7 @@ pub fn report(heap: Global, file: &[u8], out: &mut [u8]) -> Result<usize, Report
         }
         Err(ReadError::Refused(bad)) => lines.bad_file(bad),
         // A bad file is reported, so the reader's error is no error here, and `?` doesn't convert it.
-        Err(ReadError::Memory) => return Err(ReportError::Memory),
+        Err(ReadError::Memory(error)) => return Err(error.into()),
     }
     Ok(lines.len())
 }

@@ -234,9 +234,9 @@ reading bs r e = record { meaning = e; laws = laws r e; complete = λ f a. taken
     laws : (r : Result RuleFile ReadError) → Reads (decode bs) r → IfOk r (λ f. Accepted bs (file_of f))
     laws (Ok g) e = accepted bs (file_of g) e
     laws (Err (Refused b)) e = tt
-    laws (Err Memory) e = tt
+    laws (Err (Memory m)) e = tt
 
     taken : (r : Result RuleFile ReadError) → Reads (decode bs) r → (f : FileModel) → decode bs ≡ Ok f → Takes f r
     taken (Ok g) e f h = cc
     taken (Err (Refused b)) e f h = cc
-    taken (Err Memory) e f h = tt
+    taken (Err (Memory m)) e f h = tt

@@ -66,7 +66,7 @@ none_left n e = eqb-true n 0 (sym e)
 -- a fault of a record is the file's
 pub read_fault : {d : Result FileModel BadFile} {p : Parse FileModel} (f : Fault) (offset : ℕ) → Faults p f → ((why : Refusal) → p ≡ fails why → d ≡ bad why offset) → Reads d (Err (located_at f offset))
 read_fault (Bad why) offset e g = g why e
-read_fault Memory offset e g = tt
+read_fault (Memory m) offset e g = tt
 
 -- where `map_err` answers an error, it made that of a fault
 pub map_err_failed : {X : Type 0} (A : X → Type 0) (B : Fault → Type 0) (L : Fault → ReadError → Type 0) (r : Result X Fault) (s : Result X ReadError) (e : ReadError)

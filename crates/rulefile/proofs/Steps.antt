@@ -9,9 +9,9 @@ use Rattle.rulefile.specs.Answers.{Faults, Parses}
 -- a fault goes out as it came: where the part refuses, so does the whole
 pub fault_on : {A B C : Type 0} {q : Parse C} (f : Fault) (m : B → A) (p : Parse A) (rest : List ℕ) (r : Result B Fault) → IsErrAnd r (λ e. e ≡ f) → Faults q f → ((why : Refusal) → q ≡ fails why → p ≡ fails why) → Parses m p r rest
 fault_on f m p rest (Ok x) h e g = absurd h
-fault_on f m p rest (Err Memory) h e g = tt
+fault_on f m p rest (Err (Memory a)) h e g = tt
 fault_on (Bad v) m p rest (Err (Bad w)) h e g = let z : v ≡ w = cc in g w (e ∙ ap fails z)
-fault_on Memory m p rest (Err (Bad w)) h e g = absurd (cc)
+fault_on (Memory a) m p rest (Err (Bad w)) h e g = absurd (cc)
 
 -- xs were read before
 abbrev pub onto : {A : Type 0} → List A → Parse (List A) → Parse (List A)

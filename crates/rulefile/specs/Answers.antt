@@ -24,7 +24,7 @@ draft_of f = model_of f.count f.house (vec_items f.rules) (vec_items f.clauses) 
 -- a fault, where the parser's answer is p. Nothing is said where memory failed.
 abbrev pub Faults : {A : Type 0} → Parse A → Fault → Type 0
 Faults p (Bad why) = p ≡ fails why
-Faults p Memory = Unit {0}
+Faults p (Memory e) = Unit {0}
 
 -- the answer of a function that needs memory: m takes what it made to its model
 abbrev pub Parses : {A B : Type 0} → (B → A) → Parse A → Result B Fault → List ℕ → Type 0
@@ -51,10 +51,10 @@ Shorter n (Err why) = Unit {0}
 -- a fault in the record at an offset
 abbrev pub located_at : Fault → ℕ → ReadError
 located_at (Bad cause) offset = Refused (record { why = cause; at = offset })
-located_at Memory offset = NoMemory
+located_at (Memory e) offset = NoMemory e
 
 -- the answer of the reader, where the file means d. Nothing is said where memory failed.
 abbrev pub Reads : Result FileModel BadFile → Result RuleFile ReadError → Type 0
 Reads d (Ok f) = d ≡ Ok (file_of f)
 Reads d (Err (Refused b)) = d ≡ Err b
-Reads d (Err NoMemory) = Unit {0}
+Reads d (Err (NoMemory e)) = Unit {0}

@@ -12,7 +12,7 @@ use Rattle.rulefile.specs.Laws.{Accepted}
 abbrev pub Takes : FileModel → Result RuleFile ReadError → Type 0
 Takes f (Ok g) = f ≡ file_of g
 Takes f (Err (Refused b)) = ⊥
-Takes f (Err Memory) = Unit {0}
+Takes f (Err (Memory e)) = Unit {0}
 
 pub record Reading (bytes : List ℕ) (r : Result RuleFile ReadError) : Type 0 where
   -- the answer is what the bytes mean: the file, or the refusal and its offset

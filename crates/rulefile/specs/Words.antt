@@ -27,4 +27,4 @@ bad_file_words bad = codes "refused " ++ (decimal (number bad.why) ++ (codes " a
 -- a bad file as it is printed itself, or that memory is wanting
 abbrev pub read_error_words : ReadError → List ℕ
 read_error_words (Refused bad) = bad_file_words bad
-read_error_words Memory = codes "no memory to read the file"
+read_error_words (Memory e) = codes "no memory to read the file"

@@ -170,7 +170,7 @@ pub fn read_or_head_alone(heap: Global, bytes: &[u8]) -> Result<RuleFile, AllocE
 {
     match read(heap, bytes) {
         Ok(file) => Ok(file),
-        Err(ReadError::Memory) => Err(AllocError),
+        Err(ReadError::Memory(error)) => Err(error),
         Err(ReadError::Refused(_)) => {
             let head = Head { count: 1, house: 0 };
             Ok(Draft::head_alone(heap, head).finish())

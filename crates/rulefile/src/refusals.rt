@@ -2,9 +2,10 @@
 ghost use Rattle.std.specs.Prelude.{◌≡◌, Some};
 ghost use Rattle.rulefile.specs.Numbers.{number};
 ghost use Rattle.rulefile.specs.Words.{refusal_words, bad_file_words, read_error_words};
+ghost use Rattle.std.specs.declared.alloc.AllocError.{AllocError};
 ghost use Rattle.rulefile.specs.declared.refusals.Fault.TheVariants.{Bad, Memory};
 
-use std::alloc::AllocFailed;
+use std::alloc::{AllocError, AllocFailed};
 use std::error::Error;
 use std::fmt;
 
@@ -86,7 +87,7 @@ impl Error for BadFile {}
 #[derive(Clone, Copy, Debug, PartialEq, Eq)]
 pub enum ReadError {
     Refused(BadFile),
-    Memory,
+    Memory(AllocError),
 }
 
 impl fmt::Display for ReadError {
@@ -95,7 +96,7 @@ impl fmt::Display for ReadError {
     fn fmt<W: fmt::Write>(&self, f: &mut fmt::Formatter<W>) -> fmt::Result {
         match self {
             ReadError::Refused(bad) => write!(f, "{bad}"),
-            ReadError::Memory => f.write_str("no memory to read the file"),
+            ReadError::Memory(_) => f.write_str("no memory to read the file"),
         }
     }
 }
@@ -106,7 +107,7 @@ impl Error for ReadError {}
 #[derive(Clone, Copy, Debug, PartialEq, Eq)]
 pub enum Fault {
     Bad(Refusal),
-    Memory,
+    Memory(AllocError),
 }
 
 impl Fault {
@@ -120,7 +121,7 @@ impl Fault {
     {
         match self {
             Fault::Bad(why) => ReadError::Refused(BadFile { why, at: at as u32 }),
-            Fault::Memory => ReadError::Memory,
+            Fault::Memory(error) => ReadError::Memory(error),
         }
     }
 }
@@ -134,9 +135,9 @@ impl From<Refusal> for Fault {
 }
 
 impl<T: Drop> From<AllocFailed<T>> for Fault {
-    ghost from_gives = { λ _ r. r ≡ Memory };
+    ghost from_gives = { λ _ r. (e : AllocError) × (r ≡ Memory e) };
 
-    fn from(_e: AllocFailed<T>) -> Fault {
-        Fault::Memory
+    fn from(e: AllocFailed<T>) -> Fault {
+        Fault::Memory(e.into())
     }
 }
