@@ -16,7 +16,7 @@ pub enum Act {
     Strike(Sheet),
 }
 
-// What the unused places of a docket hold.
+// What the unused places of a docket hold. By hand, since a derive can name only a variant with no field.
 impl Default for Act {
     ghost use Rattle.orders.specs.declared.acts.Act.TheVariants.{Pin};
 
