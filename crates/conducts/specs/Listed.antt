@@ -1,8 +1,10 @@
 -- The laws of a table.
-use Rattle.std.specs.Prelude.{◌≡◌, ℕ, ◌^◌, ◌<◌, ◌≤◌, true, List, [], ◌∷◌, ◌==◌, bit_and, nat_eq, refl}
+use Rattle.std.specs.Prelude.{◌≡◌, ℕ, ◌^◌, ◌<◌, ◌≤◌, true, List, ◌==◌, bit_and, nat_eq}
 use Rattle.std.proofs.Common.{sym, ap, ◌∙◌, ⊎_elim, arith, pow_mono}
 use Rattle.std.specs.Int.Bits.{and_lt}
-use Rattle.std.proofs.lemmas.Bool.{both_ways, cases_Bool, and_from, and_parts, and_left, or_cases, or_left, or_right, not-true, not-false, ltb-true, eqb-true, eq-eqb}
+use Rattle.std.proofs.lemmas.Bool.{both_ways, cases_Bool, and_from, and_parts, and_left, not-true, not-false, ltb-true, eqb-true, eq-eqb}
+use Rattle.std.proofs.lemmas.List.Folds.{Any-from_list_any, list_any-from_Any}
+use Rattle.std.proofs.lemmas.List.Sums.{AllPass-from_list_all}
 use Rattle.std.specs.List.{list_all, list_any}
 use Rattle.sheets.specs.Sheets.{width, has, Part, Within, Full, Subset}
 use Rattle.sheets.specs.Judging.{JudgeLaws}
@@ -39,20 +41,17 @@ within p a z word t =
 -- ---- listed sheets
 
 listed_below : (count z : ℕ) (zs : List ℕ) → list_all (is_below count) zs ≡ true → list_any (nat_eq z) zs ≡ true → z < 2 ^ count
-listed_below count z [] h t = absurd (both_ways (list_any (nat_eq z) []) refl t)
-listed_below count z (y ∷ zs) h t =
-    let b = and_parts (is_below count y) (list_all (is_below count) zs) h in
-    ⊎_elim
-    (λ e. let same = eqb-true z y e in let lt = ltb-true y (2 ^ count) b.0 in omega arith)
-    (λ e. listed_below count z zs b.1 e)
-    (or_cases (z == y) (list_any (nat_eq z) zs) t)
+listed_below count z zs h t =
+    let (i, y, low, here, same) = Any-from_list_any (nat_eq z) zs t in
+    let below : is_below count y ≡ true = rw here at (AllPass-from_list_all (is_below count) zs h i y low) in
+    let lt = ltb-true y (2 ^ count) below in
+    let e = eqb-true z y same in
+    omega arith
 
 listed_lies : (p a z : ℕ) (zs : List ℕ) → lies_within p a z ≡ true → list_any (nat_eq z) zs ≡ true → list_any (lies_within p a) zs ≡ true
-listed_lies p a z [] l t = t
-listed_lies p a z (y ∷ zs) l t = ⊎_elim
-    (λ e. or_left (lies_within p a y) (list_any (lies_within p a) zs) (ap (lies_within p a) (sym (eqb-true z y e)) ∙ l))
-    (λ e. or_right (lies_within p a y) (list_any (lies_within p a) zs) (listed_lies p a z zs l e))
-    (or_cases (z == y) (list_any (nat_eq z) zs) t)
+listed_lies p a z zs l t =
+    let (i, y, low, here, same) = Any-from_list_any (nat_eq z) zs t in
+    list_any-from_Any (lies_within p a) zs (i, y, low, here, ap (lies_within p a) (sym (eqb-true z y same)) ∙ l)
 
 module _ (count : ℕ) (few : count ≤ width) (p a : ℕ) (part : Part p a) (every : Full p a) where
   word_below : (z : ℕ) → is_below count z ≡ true → z < 2 ^ width
@@ -62,13 +61,11 @@ module _ (count : ℕ) (few : count ≤ width) (p a : ℕ) (part : Part p a) (ev
       omega arith
 
   full_listed : (zs : List ℕ) → list_all (is_below count) zs ≡ true → list_any (lies_within p a) zs ≡ true → list_any (nat_eq p) zs ≡ true
-  full_listed [] h t = t
-  full_listed (z ∷ zs) h t =
-      let b = and_parts (is_below count z) (list_all (is_below count) zs) h in
-      ⊎_elim
-      (λ e. or_left (p == z) (list_any (nat_eq p) zs) (eq-eqb p z (sym (within_full p a part every z (within p a z (word_below z b.0) e)))))
-      (λ e. or_right (p == z) (list_any (nat_eq p) zs) (full_listed zs b.1 e))
-      (or_cases (lies_within p a z) (list_any (lies_within p a) zs) t)
+  full_listed zs h t =
+      let (i, y, low, here, lies) = Any-from_list_any (lies_within p a) zs t in
+      let below : is_below count y ≡ true = rw here at (AllPass-from_list_all (is_below count) zs h i y low) in
+      let same = within_full p a part every y (within p a y (word_below y below) lies) in
+      list_any-from_Any (nat_eq p) zs (i, y, low, here, eq-eqb p y (sym same))
 
 -- ---- the laws
 

@@ -34,6 +34,7 @@ impl Case {
     }
 }
 
+// The program's own test, as for all that it holds against the engine.
 fn is_in(sheet: Sheet, mark: Mark) -> bool {
     mark < 64 && (sheet >> mark) & 1 == 1
 }

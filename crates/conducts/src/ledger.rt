@@ -16,7 +16,7 @@ pub fn number_of(refusal: Refusal) -> u8 {
     }
 }
 
-// The count, and the acts that stand.
+// The count, and the acts that stand, with room for as many as can.
 #[derive(Drop)]
 pub struct Ledger {
     count: u8,

@@ -36,7 +36,7 @@ impl Runs {
 
     // Conducts an order over the judge and the scale, and holds it against the case. One run in eight has too little room
     // for its calls.
-    fn conduct<J: Judge + Drop, S: Scale + Drop>(
+    fn run_order<J: Judge + Drop, S: Scale + Drop>(
         &mut self,
         judge: J,
         scale: S,
@@ -69,7 +69,7 @@ impl Runs {
             first,
             second: 0,
         };
-        self.conduct(judge, Number::new(first), &case)?;
+        self.run_order(judge, Number::new(first), &case)?;
         Ok(())
     }
 
@@ -100,7 +100,7 @@ impl Runs {
             first,
             second,
         };
-        self.conduct(judge, scale, &case)?;
+        self.run_order(judge, scale, &case)?;
         Ok(())
     }
 }
