@@ -2,7 +2,7 @@
 use crate::costs::try_costs;
 use rulefile::{RuleFile, read};
 use scales::Levels;
-use std::alloc::{AllocError, Global};
+use std::alloc::Global;
 use std::fmt;
 use std::fmt::Formatter;
 use std::rc::Rc;
@@ -69,19 +69,17 @@ impl fmt::Display for Wishes {
 
 impl Wishes {
     // The bytes of one of the wishes.
-    fn add_one(self, bytes: &mut Vec<u8>, level: u8) -> Result<(), AllocError> {
-        bytes.extend_from_slice(&[7, 0, 0, 0, 4, 0, level])?;
-        bytes.extend_from_slice(&self.weight.to_le_bytes())?;
-        bytes.extend_from_slice(&[1, 0])
+    fn record(self, level: u8) -> [u8; 11] {
+        let [a, b] = self.weight.to_le_bytes();
+        [7, 0, 0, 0, 4, 0, level, a, b, 1, 0]
     }
 
     // The file of the wishes.
     fn file(self, heap: Global) -> anyhow::Result<RuleFile> {
         let mut bytes = Vec::from_slice(heap, &HEAD)?;
         for level in self.low..=self.high {
-            for _ in 0..self.times {
-                self.add_one(&mut bytes, level)?;
-            }
+            let wishes = self.record(level).repeat(heap, usize::from(self.times))?;
+            bytes.extend_from_slice(wishes.as_slice())?;
         }
         Ok(read(heap, bytes.as_slice())?)
     }
