@@ -85,18 +85,16 @@ fn check_worked_records(rt: &impl Abort, file: &RuleFile) -> Result<(), Fail> {
     check_element(rt, file, 0, plain(0), 1)?;
     check_element(rt, file, 1, plain(1), 1)?;
     check_wish(rt, file, 1, 3, plain(0))?;
-    assert!(rt; matches!(file.acts.as_slice(), [Act::Pin(0), Act::Bar(0)]));
+    assert_eq!(rt; file.acts.as_slice(), [Act::Pin(0), Act::Bar(0)].as_slice());
     Ok(())
 }
 
 fn check_worked(rt: &impl Abort, file: &RuleFile) -> Result<(), Fail> {
     assert_eq!(rt; (file.count, file.house), (4, 0));
     assert_eq!(rt; sizes(file), (1, 0, 1, 2));
-    assert!(rt;
-        matches!(
-            file.order.as_slice(),
-            [Kind::Rule, Kind::Wish, Kind::Act, Kind::Act]
-        )
+    assert_eq!(rt;
+        file.order.as_slice(),
+        [Kind::Rule, Kind::Wish, Kind::Act, Kind::Act].as_slice()
     );
     check_worked_records(rt, file)
 }
@@ -195,17 +193,16 @@ fn literals(rt: HostRuntime) -> Result<(), Fail> {
 }
 
 fn check_acts(rt: &impl Abort, acts: &[Act]) -> Result<(), Fail> {
-    let [
-        Act::Pin(pinned),
-        Act::Bar(barred),
-        Act::Strike(sheet),
-        Act::Undo,
-    ] = acts
-    else {
-        return Err(Fail::new("other acts"));
-    };
-    assert_eq!(rt; (*pinned, *barred), (255, 128));
-    assert_eq!(rt; *sheet, 0x0200_0000_0000_0001);
+    assert_eq!(rt;
+        acts,
+        [
+            Act::Pin(255),
+            Act::Bar(128),
+            Act::Strike(0x0200_0000_0000_0001),
+            Act::Undo,
+        ]
+        .as_slice()
+    );
     Ok(())
 }
 
@@ -232,11 +229,9 @@ fn house_sheet(rt: HostRuntime) -> Result<(), Fail> {
 
 // The order is act, wish, clause, wish, and the wishes have the levels 5 and 3.
 fn check_mixed(rt: &impl Abort, file: &RuleFile) -> Result<(), Fail> {
-    assert!(rt;
-        matches!(
-            file.order.as_slice(),
-            [Kind::Act, Kind::Wish, Kind::Clause, Kind::Wish]
-        )
+    assert_eq!(rt;
+        file.order.as_slice(),
+        [Kind::Act, Kind::Wish, Kind::Clause, Kind::Wish].as_slice()
     );
     let [first, second] = file.wishes.as_slice() else {
         return Err(Fail::new("not two wishes"));
