@@ -1,4 +1,4 @@
-// A scale by the sheet as a number.
+// A scale by the sheet as a number. It is short like the distance, but its floor and its cost are others.
 ghost use Rattle.std.specs.Prelude.{◌≡◌};
 ghost use Rattle.conducts.specs.Numbers.{number_of};
 ghost use Rattle.conducts.specs.Numbered.{number_laws};

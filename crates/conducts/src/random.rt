@@ -27,7 +27,7 @@ impl Random {
         self.next().checked_rem(limit).unwrap_or(0)
     }
 
-    // The same for small numbers.
+    // The same for small numbers. It draws other bits than `below`, and runs are stored.
     pub fn small(&mut self, limit: u8) -> u8 {
         let drawn = (self.next() & 0xffff) as u16;
         if limit == 0 {

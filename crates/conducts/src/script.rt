@@ -1,4 +1,4 @@
-// Lists of calls, by chance.
+// Lists of calls, by chance. Numbers that are drawn are matched: they are chances, and each arm draws on.
 use crate::random::Random;
 use orders::Call;
 use sheets::{Mark, Sheet, first_marks, with_mark};

@@ -13,7 +13,8 @@ use rulefile::{Rule, RuleFile};
 use sheets::{Judge, PartSheet, Sheet};
 use std::rc::Rc;
 
-// Allows the lawful sheets of a file, which it shares with other judges and scales.
+// Allows the lawful sheets of a file, which it shares with other judges and scales. It has one field in common with
+// `PrinterList`, and nothing of what it means.
 #[derive(Drop)]
 pub struct Book {
     file: Rc<RuleFile>,

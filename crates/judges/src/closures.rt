@@ -83,7 +83,7 @@ impl Reduct<'_> {
             .fold(reached, |marks, rule| self.fire(rule, marks))
     }
 
-    // The closure of the reduct.
+    // The closure of the reduct. A `loop`, as no method of the library repeats up to a fixed point.
     pub(crate) fn closure(&self) -> Sheet
         ensures closes { Closure (reduct self.now.sheet (map rule_of self.now.rules.now)) result }
         ensures within { Subset result self.now.sheet }

@@ -5,6 +5,7 @@ use report::{LEAST_BUFFER, report};
 use rulefile::input_limit;
 use std::io::{Read, Write};
 
+// Three lines that `listing` has too: a call of a library would owe a promise on what a reader gives.
 fn read_input(rt: &HostRuntime) -> anyhow::Result<Vec<u8>> {
     let mut file = Vec::new(rt.alloc());
     let mut input = rt.stdin().take(input_limit());

@@ -6,7 +6,8 @@ ghost use Rattle.orders.specs.Searches.{start, dismissed, present_at, absent_at}
 use sheets::{PartSheet, Sheet, first_marks, has_mark};
 use std::marker::Model;
 
-// The place decides the first `decided` marks, of which those in `present` are present and the others absent.
+// The place decides the first `decided` marks, of which those in `present` are present and the others absent. `finished`
+// is no tag of the other fields: a finished search shows its place and its sheet too.
 #[derive(Clone, Copy, Debug, PartialEq, Eq)]
 pub struct Search {
     pub(crate) decided: u8,

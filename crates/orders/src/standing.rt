@@ -75,7 +75,7 @@ impl Docket {
         self.check_room()
     }
 
-    // Refuses a strike of the sheet by the first refusal that applies.
+    // Refuses a strike of the sheet by the first refusal that applies. Its questions and refusals are others than a mark's.
     fn check_sheet(&self, count: u8, sheet: Sheet) -> Result<(), Refusal>
         ensures { result_err result ≡ refused_act count (standing self.now) (StrikeAct sheet) }
     {

@@ -74,7 +74,8 @@ fn settled_turn<J: Judge + Drop, S: Scale + Drop>(
     }
 }
 
-// What the call leads to, with its answer; nothing where the stage of the order does not have the call.
+// What the call leads to, with its answer; nothing where the stage of the order does not have the call. Calls are data,
+// which lists hold and promises speak of, so they are matched and are no closures; and each stage has calls of its own.
 pub(crate) fn turn<J: Judge + Drop, S: Scale + Drop>(
     order: Order<J, S>,
     call: Call,

@@ -257,6 +257,7 @@ impl Field for Act {
     ghost parser = { λ _. act_fields };
 
     fn read(body: &mut Body<'_>) -> Result<Act, Fault> {
+        // The number goes no further, so no enum is made of it.
         let code = body.within(1, 4)?;
         match code {
             1 => {

@@ -7,7 +7,8 @@ use crate::records::{Act, Clause, Kind, Rule};
 use crate::wishes::Wish;
 use sheets::Sheet;
 
-// The count of marks, the house sheet, and what the later records say, in file order; `order` has their kinds.
+// The count of marks, the house sheet, and what the later records say, in file order; `order` has their kinds. Four lists
+// and not one of all kinds: each judge and scale goes through one of them.
 #[derive(Debug, PartialEq, Eq, Drop)]
 pub struct RuleFile {
     pub count: u8,

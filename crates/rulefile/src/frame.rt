@@ -5,7 +5,7 @@ ghost use Rattle.rulefile.specs.Answers.{parsed_record, Shorter};
 
 use crate::refusals::Refusal;
 
-// A record: the number of its kind, its body, and the bytes after it.
+// A record: the number of its kind, its body, and the bytes after it. A number: it may be no kind's, which is refused later.
 #[derive(Drop)]
 pub struct Record<'a> {
     pub kind: u16,

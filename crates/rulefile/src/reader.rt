@@ -120,7 +120,7 @@ impl Draft {
         Ok(record.after)
     }
 
-    // The file, once it is read to its end.
+    // The file, once it is read to its end. No `From`, which could not ask for the limits.
     #[tactic(auto, using(crate::proofs::Fits::fit_made))]
     fn finish(self) -> RuleFile
         requires { Fits (draft_of self) }

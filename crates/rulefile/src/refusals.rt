@@ -83,7 +83,8 @@ impl fmt::Display for BadFile {
 
 impl Error for BadFile {}
 
-// Why a file was not read: it is refused, or memory is wanting.
+// Why a file was not read: it is refused, or memory is wanting. An enum for each crate, since the `From` of a type parameter
+// and that of `AllocError` would overlap.
 #[derive(Clone, Copy, Debug, PartialEq, Eq)]
 pub enum ReadError {
     Refused(BadFile),
@@ -115,7 +116,7 @@ impl Fault {
     ghost use Rattle.rulefile.specs.Answers.{located_at};
 
     // The fault of the record at an offset, as the reader answers it.
-    pub fn located(self, at: usize) -> ReadError
+    pub(crate) fn located(self, at: usize) -> ReadError
         requires { at ≤ 32768 }
         ensures { result ≡ located_at self at }
     {

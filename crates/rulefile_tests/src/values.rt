@@ -1,4 +1,4 @@
-// What is read of good files.
+// What is read of good files. The handle comes first in every assertion, so it is no part of a struct with the file.
 use crate::build::*;
 use rulefile::{Act, Kind, Refusal, RuleFile, read, read_or_head_alone};
 use sheets::Literal;

@@ -2,7 +2,7 @@
 ghost use Rattle.std.specs.Prelude.{◌≡◌};
 ghost use Rattle.scales.specs.Wishes.{cost_at};
 
-// The costs from level 8 down to level 1, in the order in which they are compared.
+// The costs from level 8 down to level 1, in the order in which they are compared: an array is, place by place.
 #[derive(Clone, Copy, Debug, PartialEq, Eq, PartialOrd, Ord)]
 pub struct LevelCost {
     pub(crate) levels: [i32; 8],

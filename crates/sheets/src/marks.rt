@@ -5,7 +5,7 @@ ghost use Rattle.sheets.specs.Sheets.{width, has, MarksBelow};
 // One thing that a sheet may have, by its number.
 pub type Mark = u8;
 
-// A set of marks: bit i stands for mark i.
+// A set of marks: bit i stands for mark i. A plain word, by a rule of the project.
 pub type Sheet = u64;
 
 // How many marks there are.

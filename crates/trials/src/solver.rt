@@ -1,5 +1,5 @@
 // A second solver, by other means than the engine's: it goes through all sets of marks and takes what the sets that
-// satisfy the reduct have in common.
+// satisfy the reduct have in common. Rules, sets and sheets are parameters, as in the definitions that it follows.
 use judges::Verdict;
 use rulefile::{Constraint, Rule, RuleFile};
 use sheets::{Literal, Mark, Sheet, first_marks};
