@@ -18,7 +18,7 @@ pub record Starts (out : MutBor (List ℕ)) (w : Writer) : Type 0 where
   pub none : w.len ≡ 0
 
 -- the buffer has room for the text behind what is written
-pub record Fits (w : Writer) (text : List ℕ) : Type 0 where
+pub record HasRoom (w : Writer) (text : List ℕ) : Type 0 where
   pub room : w.len + length text ≤ length w.out.now
 
 -- the text was written behind what was written; all other bytes stay

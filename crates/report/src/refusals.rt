@@ -57,7 +57,7 @@ impl fmt::Display for ReportError {
 impl Error for ReportError {}
 
 impl From<Refusal> for ReportError {
-    ghost from_gives = { λ refusal e. e ≡ Refused refusal };
+    ghost from_gives = { λ refusal r. r ≡ Refused refusal };
 
     fn from(refusal: Refusal) -> ReportError {
         ReportError::Refused(refusal)
@@ -65,9 +65,9 @@ impl From<Refusal> for ReportError {
 }
 
 impl From<AllocError> for ReportError {
-    ghost from_gives = { λ _ e. e ≡ Memory };
+    ghost from_gives = { λ _ r. r ≡ Memory };
 
-    fn from(_: AllocError) -> ReportError {
+    fn from(_e: AllocError) -> ReportError {
         ReportError::Memory
     }
 }

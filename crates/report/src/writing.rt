@@ -19,7 +19,7 @@ pub(crate) struct Writer<'a> {
 }
 
 impl<'a> Writer<'a> {
-    ghost use Rattle.report.specs.Writing.{Starts, Fits, Writes};
+    ghost use Rattle.report.specs.Writing.{Starts, HasRoom, Writes};
 
     // Nothing is written.
     pub(crate) fn new(out: &'a mut [u8]) -> Writer<'a>
@@ -36,7 +36,7 @@ impl<'a> Writer<'a> {
     }
 
     fn text(&mut self, text: &[u8])
-        requires { Fits self.old text.now }
+        requires { HasRoom self.old text.now }
         ensures { Writes self.old text.now self.new }
     {
         let end = self.len + text.len();
@@ -47,7 +47,7 @@ impl<'a> Writer<'a> {
     // The number in decimal: what its tenth is written as, and its last digit. std's formatter would write the digits
     // into a buffer of its own first.
     fn number(&mut self, n: u32)
-        requires { Fits self.old (decimal n) }
+        requires { HasRoom self.old (decimal n) }
         ensures { Writes self.old (decimal n) self.new }
     {
         if n >= 10 {
@@ -58,7 +58,7 @@ impl<'a> Writer<'a> {
 
     // The number in decimal, with `-` before a negative one.
     fn signed(&mut self, n: i32)
-        requires { Fits self.old (signed_decimal n) }
+        requires { HasRoom self.old (signed_decimal n) }
         ensures { Writes self.old (signed_decimal n) self.new }
     {
         if n < 0 {
@@ -69,7 +69,7 @@ impl<'a> Writer<'a> {
 
     // The marks of the sheet upward, each behind a space.
     fn marks(&mut self, sheet: Sheet)
-        requires { Fits self.old (spaced decimal (marks sheet)) }
+        requires { HasRoom self.old (spaced decimal (marks sheet)) }
         ensures { Writes self.old (spaced decimal (marks sheet)) self.new }
     {
         for mark in 0..WIDTH {
@@ -82,7 +82,7 @@ impl<'a> Writer<'a> {
 
     // The costs from level 8 down to level 1, each behind a space.
     fn levels(&mut self, cost: LevelCost)
-        requires { Fits self.old (spaced signed_decimal (down_from top (cost_at cost.levels))) }
+        requires { HasRoom self.old (spaced signed_decimal (down_from top (cost_at cost.levels))) }
         ensures { Writes self.old (spaced signed_decimal (down_from top (cost_at cost.levels))) self.new }
     {
         for level in (1..=8).rev() {
@@ -93,7 +93,7 @@ impl<'a> Writer<'a> {
 
     #[tactic(auto, unfolding(crate::specs::Lines::sheet_line))]
     fn sheet(&mut self, sheet: Sheet, cost: Cost)
-        requires { Fits self.old (sheet_line sheet (down_from top (cost_at cost.0.levels)) cost.1) }
+        requires { HasRoom self.old (sheet_line sheet (down_from top (cost_at cost.0.levels)) cost.1) }
         ensures { Writes self.old (sheet_line sheet (down_from top (cost_at cost.0.levels)) cost.1) self.new }
     {
         let (levels, distance) = cost;
@@ -109,7 +109,7 @@ impl<'a> Writer<'a> {
     // The settled sheet with its cost, or that there is no sheet.
     #[tactic(auto, unfolding(crate::specs::Lines::no_sheet_line))]
     fn settled(&mut self, answer: Option<(Sheet, Cost)>)
-        requires { Fits self.old (final_text answer) }
+        requires { HasRoom self.old (final_text answer) }
         ensures { Writes self.old (final_text answer) self.new }
     {
         match answer {
@@ -120,7 +120,7 @@ impl<'a> Writer<'a> {
 
     #[tactic(auto, unfolding(crate::specs::Lines::act_line))]
     fn refusal(&mut self, why: Refusal)
-        requires { Fits self.old (act_line (Some why)) }
+        requires { HasRoom self.old (act_line (Some why)) }
         ensures { Writes self.old (act_line (Some why)) self.new }
     {
         self.text(b"refused ");
@@ -130,7 +130,7 @@ impl<'a> Writer<'a> {
 
     #[tactic(auto, unfolding(crate::specs::Lines::act_line))]
     fn answer(&mut self, answer: Answer<Cost>)
-        requires { Fits self.old (answer_text answer) }
+        requires { HasRoom self.old (answer_text answer) }
         ensures { Writes self.old (answer_text answer) self.new }
     {
         match answer {
@@ -143,7 +143,7 @@ impl<'a> Writer<'a> {
 
     // The lines of the answers.
     pub(crate) fn log(&mut self, log: &[Event<Cost>])
-        requires { Fits self.old (log_text log.now) }
+        requires { HasRoom self.old (log_text log.now) }
         ensures { Writes self.old (log_text log.now) self.new }
     {
         for event in log {
@@ -154,7 +154,7 @@ impl<'a> Writer<'a> {
     // The refusal of a file, and the offset of the record concerned.
     #[tactic(auto, unfolding(crate::specs::Lines::bad_file_line))]
     pub(crate) fn bad_file(&mut self, bad: BadFile)
-        requires { Fits self.old (bad_file_line bad) }
+        requires { HasRoom self.old (bad_file_line bad) }
         ensures { Writes self.old (bad_file_line bad) self.new }
     {
         self.text(b"refused ");

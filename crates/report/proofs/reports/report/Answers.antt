@@ -7,7 +7,7 @@ use Rattle.report.specs.declared.writing.Writer.{Writer}
 use Rattle.report.specs.Lines.{bad_file_line}
 use Rattle.report.specs.Logs.{log_text}
 use Rattle.report.specs.Reports.{Fitting, Written}
-use Rattle.report.specs.Writing.{Fits, Writes}
+use Rattle.report.specs.Writing.{HasRoom, Writes}
 use Rattle.report.proofs.Lengths.{bad_file_short}
 use Rattle.report.proofs.Only.{lines_one}
 use Rattle.report.proofs.Pieces.{writes_front, writes_like}
@@ -49,8 +49,8 @@ returns c =
           p c.len.ensures (search (rules, p.same_reference))
     ]
 
-bad_fits : (w : Writer) (bad : BadFile) (before : List ℕ) → w.len ≡ 0 → w.out.now ≡ before → 4096 ≤ length before → Fits w (bad_file_line bad)
-bad_fits w bad before none same room = record { room = omega (arith, bad_file_short bad, ap length same) }
+bad_file_room : (w : Writer) (bad : BadFile) (before : List ℕ) → w.len ≡ 0 → w.out.now ≡ before → 4096 ≤ length before → HasRoom w (bad_file_line bad)
+bad_file_room w bad before none same room = record { room = omega (arith, bad_file_short bad, ap length same) }
 
 pub bad_file-requires : goal.bad_file-requires
-bad_file-requires c = bad_fits c.new-lines.result _ c.args.out.now c.new-lines.ensures.none c.new-lines.ensures.bytes c.if-out-lt-LEAST_BUFFER.false
+bad_file-requires c = bad_file_room c.new-lines.result _ c.args.out.now c.new-lines.ensures.none c.new-lines.ensures.bytes c.if-out-lt-LEAST_BUFFER.false

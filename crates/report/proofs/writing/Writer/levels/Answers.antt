@@ -2,7 +2,7 @@ use Rattle.std.proofs.Common.{◌≡◌, ◌-◌, [], ◌∷◌, ◌++◌, ℤ, 
 use Rattle.std.specs.Fmt.{signed_decimal}
 use Rattle.std.proofs.lemmas.Int.{to_z-of_z}
 use Rattle.scales.specs.Wishes.{cost_at}
-use Rattle.report.proofs.Pieces.{fits_like, writes_like, left_all, left_first, left_more, left_none}
+use Rattle.report.proofs.Pieces.{room_like, writes_like, left_all, left_first, left_more, left_none}
 use Rattle.report.proofs.Texts.{levels_left, levels_left_more, levels_left_none}
 use Rattle.report.proofs.writing.Writer.levels.Goals as goal
 
@@ -29,7 +29,7 @@ signed-requires c =
     let n = c.loop-level.level in
     let cost = signed_decimal (cost_at levels n) in
     let rest = levels_left levels (n - 1) in
-    fits_like (sym (read c.at.result (cost_at levels n) (search rules) c.at.ensures))
+    room_like (sym (read c.at.result (cost_at levels n) (search rules) c.at.ensures))
     (left_first cost rest refl (left_more (cost ++ rest) (levels_left_more levels n c.loop-level-test.true) c.loop-level.invariant c.text.ensures))
 
 pub loop-level-preserved : goal.loop-level-preserved

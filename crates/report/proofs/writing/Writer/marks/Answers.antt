@@ -1,6 +1,6 @@
 use Rattle.std.proofs.Common.{◌+◌, [], ◌∷◌, ◌++◌, decimal, sym, refl, ap, ◌∙◌}
 use Rattle.report.specs.Lines.{marks}
-use Rattle.report.proofs.Pieces.{fits_like, writes_like, left_all, left_like, left_first, left_more, left_none}
+use Rattle.report.proofs.Pieces.{room_like, writes_like, left_all, left_like, left_first, left_more, left_none}
 use Rattle.report.proofs.Texts.{marks_left, marks_left_there, marks_left_missing, marks_left_none}
 use Rattle.report.proofs.writing.Writer.marks.Goals as goal
 use Rattle.report.proofs.writing.Writer.marks.Goals.{then-has_mark, else-has_mark}
@@ -21,7 +21,7 @@ number-requires c =
     let i = c.loop-mark.mark in
     let rest = decimal i ++ marks_left z (i + 1) in
     let left = left_more rest (marks_left_there z i c.loop-mark-test.true (sym c.has_mark.ensures ∙ c.if-has_mark.true)) c.loop-mark.invariant c.text.ensures in
-    fits_like (ap decimal (sym c.from.ensures)) (left_first (decimal i) (marks_left z (i + 1)) refl left)
+    room_like (ap decimal (sym c.from.ensures)) (left_first (decimal i) (marks_left z (i + 1)) refl left)
 
 pub loop-mark-preserved : goal.loop-mark-preserved
 loop-mark-preserved c =
