@@ -49,18 +49,18 @@ module _ {C : Type 0} (j : Judging) (s : Scaling C) where
 
 abbrev pub state_of : {J S : Type 0} → Order J S → State
 state_of (Marking m) = record { stage = marking; acts = acts_of m.acts; search = start }
-state_of (Seeking m) = record { stage = seeking; acts = acts_of m.acts; search = m.search }
-state_of (Settled m) = record { stage = settled; acts = acts_of m.acts; search = start }
+state_of (Seeking m) = record { stage = seeking; acts = acts_of m.marking.acts; search = m.search }
+state_of (Settled m) = record { stage = settled; acts = acts_of m.marking.acts; search = start }
 
 abbrev pub judge_of : {J S : Type 0} → Order J S → J
 judge_of (Marking m) = m.acts.judge
-judge_of (Seeking m) = m.acts.judge
-judge_of (Settled m) = m.acts.judge
+judge_of (Seeking m) = m.marking.acts.judge
+judge_of (Settled m) = m.marking.acts.judge
 
 abbrev pub scale_of : {J S : Type 0} → Order J S → S
 scale_of (Marking m) = m.scale
-scale_of (Seeking m) = m.scale
-scale_of (Settled m) = m.scale
+scale_of (Seeking m) = m.marking.scale
+scale_of (Settled m) = m.marking.scale
 
 module _ {J S C : Type 0} (judging : J → Judging) (scaling : S → Scaling C) where
   -- the call leads from one order to the next, over the same judge and scale

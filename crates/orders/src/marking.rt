@@ -63,15 +63,11 @@ impl<J: Judge, S: Scale> Marking<J, S> {
     // Begins a search.
     pub fn seek(self) -> Seeking<J, S>
         ensures search { result.search ≡ start }
-        ensures acts { result.acts ≡ self.acts }
-        ensures scale { result.scale ≡ self.scale }
+        ensures marking { result.marking ≡ self }
     {
-        let Marking { acts, scale } = self;
-        let search = Search::start();
         Seeking {
-            acts,
-            scale,
-            search,
+            marking: self,
+            search: Search::start(),
         }
     }
 }

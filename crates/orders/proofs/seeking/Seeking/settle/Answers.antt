@@ -10,16 +10,18 @@ use Rattle.orders.proofs.seeking.Seeking.settle.Goals as goal
 pub returns-clause-search : goal.returns-clause-search
 returns-clause-search g c =
     let me = c.args.self in
-    let j = held_to g.J.Judge.judging me.acts in
-    let s = g.S.Scale.scaling me.scale in
+    let acts = me.marking.acts in
+    let scale = me.marking.scale in
+    let j = held_to g.J.Judge.judging acts in
+    let s = g.S.Scale.scaling scale in
     let last = c.finish.new.self.search in
     let told = c.begin-walk.ensures in
     let ended : Ended j s me.search last = rw (told.judge, told.scale, told.search) at c.finish.ensures in
     let its_held : c.last.inside.held ≡ last.held = ap (λ (x : Search). x.held) c.last.view_is in
-    let laws = under_laws (g.J.Judge.judging me.acts.judge) (acts_of me.acts) me.acts.docket.ranges (g.met.J.Judge.lawful me.acts.judge) in
+    let laws = under_laws (g.J.Judge.judging acts.judge) (acts_of acts) acts.docket.ranges (g.met.J.Judge.lawful acts.judge) in
     record {
       last = last;
       ended = ended;
       its_held = its_held;
-      best = λ reached. subst (λ h. Best j s (priced s h)) (sym its_held) (ended_best j s laws (g.met.S.Scale.lawful me.scale) me.search last reached.0 reached.1 ended);
+      best = λ reached. subst (λ h. Best j s (priced s h)) (sym its_held) (ended_best j s laws (g.met.S.Scale.lawful scale) me.search last reached.0 reached.1 ended);
     }
