@@ -4,6 +4,7 @@ use crate::ledger::{Ledger, number_of};
 use crate::tally::Tally;
 use orders::{Answer, Call, Event, Progress, Refusal};
 use sheets::Sheet;
+use std::alloc::{AllocError, Global};
 
 // A sheet that is shown, with its cost as the program's own.
 fn with_cost<C: Into<Cost>>(held: Option<(Sheet, C)>) -> Option<(Sheet, Cost)> {
@@ -62,31 +63,37 @@ impl Follower<'_> {
     }
 
     // Takes the next event; returns whether its answer is right.
-    fn take<C: Copy + Into<Cost>>(&mut self, event: Event<C>) -> bool {
+    fn take<C: Copy + Into<Cost>>(&mut self, event: Event<C>) -> Result<bool, AllocError> {
         let before = self.shown.take();
         match (event.call, event.answer) {
             (Call::Advance(most), Answer::Shown(progress)) => {
                 self.shown = cost_of(with_cost(progress.held));
-                is_no_rise(before, self.shown) && is_progress_right(self.open(), most, progress)
+                let right = is_progress_right(self.open(), most, progress);
+                Ok(right && is_no_rise(before, self.shown))
             }
             (Call::Settle, Answer::Final(held)) => {
                 let held = with_cost(held);
-                is_no_rise(before, cost_of(held)) && held == self.open().best()
+                Ok(is_no_rise(before, cost_of(held)) && held == self.open().best())
             }
-            (call, answer) => is_expected(self.ledger.take(call), answer),
+            (call, answer) => Ok(is_expected(self.ledger.take(call)?, answer)),
         }
     }
 }
 
-pub fn follow<C: Copy + Into<Cost>>(case: &Case, log: &[Event<C>], tally: &mut Tally) {
-    let ledger = Ledger::new(case.count);
+pub fn follow<C: Copy + Into<Cost>>(
+    heap: Global,
+    case: &Case,
+    log: &[Event<C>],
+    tally: &mut Tally,
+) -> Result<(), AllocError> {
     let mut follower = Follower {
         case,
-        ledger,
+        ledger: Ledger::new(heap, case.count),
         shown: None,
     };
     for event in log {
         tally.add_answer(event.answer);
-        tally.expect(follower.take(*event));
+        tally.expect(follower.take(*event)?);
     }
+    Ok(())
 }

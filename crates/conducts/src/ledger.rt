@@ -1,11 +1,11 @@
 // The rules of a docket, kept on a plain list of acts.
-use arrayvec::ArrayVec;
 use orders::{Act, Call, Refusal};
 use sheets::{Mark, Sheet};
+use std::alloc::{AllocError, Global};
 
 const MOST_ACTS: usize = 32;
 
-// The number by which the refusal is to be known.
+// The number by which the refusal is to be known: the program's own table, which the engine's numbers are held against.
 pub fn number_of(refusal: Refusal) -> u8 {
     match refusal {
         Refusal::MarkRange => 21,
@@ -16,16 +16,16 @@ pub fn number_of(refusal: Refusal) -> u8 {
     }
 }
 
-// The count, and the acts that stand, with room for as many as can.
+// The count, and the acts that stand.
 #[derive(Drop)]
 pub struct Ledger {
     count: u8,
-    acts: ArrayVec<Act, MOST_ACTS>,
+    acts: Vec<Act>,
 }
 
 impl Ledger {
-    pub fn new(count: u8) -> Ledger {
-        let acts = ArrayVec::new();
+    pub fn new(heap: Global, count: u8) -> Ledger {
+        let acts = Vec::new(heap);
         Ledger { count, acts }
     }
 
@@ -53,17 +53,26 @@ impl Ledger {
         }
     }
 
-    // Adds the act, unless it is refused; returns how many acts then stand.
-    fn add(&mut self, act: Act) -> Result<usize, Refusal> {
+    // Refuses the act by the first refusal that applies.
+    fn check(&self, act: Act) -> Result<(), Refusal> {
         match act {
             Act::Pin(mark) | Act::Bar(mark) => self.check_mark(mark)?,
             Act::Strike(sheet) => self.check_sheet(sheet)?,
         }
-        if self.acts.is_full() {
-            return Err(Refusal::DocketFull);
+        if self.acts.len() < MOST_ACTS {
+            Ok(())
+        } else {
+            Err(Refusal::DocketFull)
         }
-        self.acts.push(act);
-        Ok(self.acts.len())
+    }
+
+    // Adds the act, unless it is refused; returns how many acts then stand.
+    fn add(&mut self, act: Act) -> Result<Result<usize, Refusal>, AllocError> {
+        if let Err(why) = self.check(act) {
+            return Ok(Err(why));
+        }
+        self.acts.push(act)?;
+        Ok(Ok(self.acts.len()))
     }
 
     // Takes the last act off; returns how many acts then stand.
@@ -73,13 +82,14 @@ impl Ledger {
     }
 
     // What a call is to be answered that takes no step of a search; none where it moves the order to another stage.
-    pub fn take(&mut self, call: Call) -> Option<Result<usize, Refusal>> {
-        match call {
-            Call::Pin(mark) => Some(self.add(Act::Pin(mark))),
-            Call::Bar(mark) => Some(self.add(Act::Bar(mark))),
-            Call::Strike(sheet) => Some(self.add(Act::Strike(sheet))),
-            Call::Undo => Some(self.undo()),
-            _ => None,
-        }
+    pub fn take(&mut self, call: Call) -> Result<Option<Result<usize, Refusal>>, AllocError> {
+        let answer = match call {
+            Call::Pin(mark) => self.add(Act::Pin(mark))?,
+            Call::Bar(mark) => self.add(Act::Bar(mark))?,
+            Call::Strike(sheet) => self.add(Act::Strike(sheet))?,
+            Call::Undo => self.undo(),
+            _ => return Ok(None),
+        };
+        Ok(Some(answer))
     }
 }

@@ -53,8 +53,7 @@ impl Runs {
         conduct(judge, scale, calls, &mut log);
         self.tally.add_run(calls.len());
         self.tally.expect(log.len() == script.answered.min(room));
-        follow(case, log.as_slice(), &mut self.tally);
-        Ok(())
+        follow(self.heap, case, log.as_slice(), &mut self.tally)
     }
 
     // A table, and the number of the sheet.

@@ -1,5 +1,5 @@
 // What was conducted, in numbers.
-use orders::Answer;
+use orders::{Answer, Refusal};
 use std::fmt::Formatter;
 use std::{fmt, io};
 
@@ -10,8 +10,8 @@ pub struct Tally {
     calls: u64,
     events: u64,
     stands: u64,
-    // The number of each refusal, and how many had it.
-    refused: [(u8, u64); 5],
+    // Each refusal, and how many calls it refused.
+    refused: [(Refusal, u64); 5],
     moved: u64,
     advances: u64,
     steps: u64,
@@ -43,7 +43,13 @@ impl Tally {
             calls: 0,
             events: 0,
             stands: 0,
-            refused: [(21, 0), (22, 0), (24, 0), (25, 0), (26, 0)],
+            refused: [
+                (Refusal::MarkRange, 0),
+                (Refusal::MarkTaken, 0),
+                (Refusal::SheetStruck, 0),
+                (Refusal::DocketFull, 0),
+                (Refusal::DocketEmpty, 0),
+            ],
             moved: 0,
             advances: 0,
             steps: 0,
@@ -58,9 +64,10 @@ impl Tally {
         self.calls = self.calls.wrapping_add(calls as u64);
     }
 
-    fn add_refusal(&mut self, number: u8) {
-        for (known, times) in &mut self.refused {
-            if *known == number {
+    // A `for`, since no proof is found that what `iter_mut().find(..)` lends comes back.
+    fn add_refusal(&mut self, why: Refusal) {
+        for (refusal, times) in &mut self.refused {
+            if *refusal == why {
                 *times = times.wrapping_add(1);
             }
         }
@@ -70,7 +77,7 @@ impl Tally {
         self.events = self.events.wrapping_add(1);
         match answer {
             Answer::Stands(_) => self.stands = self.stands.wrapping_add(1),
-            Answer::Refused(why) => self.add_refusal(why.number()),
+            Answer::Refused(why) => self.add_refusal(why),
             Answer::Moved => self.moved = self.moved.wrapping_add(1),
             Answer::Shown(progress) => {
                 self.advances = self.advances.wrapping_add(1);
@@ -102,7 +109,8 @@ impl Tally {
         println!(rt; "moves to another stage: {moved}")?;
         println!(rt; "advances: {advances}, with {steps} steps")?;
         println!(rt; "settlings: {sheets} with a sheet, {none} with no sheet")?;
-        for (number, times) in &self.refused {
+        for (refusal, times) in &self.refused {
+            let number = refusal.number();
             println!(rt; "refused by {number}: {times}")?;
         }
         Ok(())

@@ -10,7 +10,7 @@ use rulefile::{RuleFile, read_or_head_alone};
 use sheets::{Sheet, within_count};
 use std::alloc::{AllocError, Global};
 
-// Why no verdict is given: it is refused, or memory is wanting.
+// Why no verdict is given: it is refused, or memory is wanting. Nobody passes the allocation's error on from here.
 #[derive(Clone, Copy, Debug, PartialEq, Eq)]
 pub enum VerdictError {
     Refused(Refusal),

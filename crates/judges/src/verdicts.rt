@@ -1,4 +1,5 @@
-// Whether a sheet is lawful, and if not, why.
+// Whether a sheet is lawful, and if not, why. Rules and sheet are two parameters, what is asked of and what is asked; where
+// they act as one they are a `Reduct`.
 ghost use Rattle.std.specs.Prelude.{◌≡◌, ◌<◌, map, MatchOption};
 ghost use Rattle.sheets.specs.Sheets.{Subset};
 ghost use Rattle.rulefile.specs.Model.{rule_of};

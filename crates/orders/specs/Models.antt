@@ -10,7 +10,7 @@ use Rattle.orders.specs.Dockets.{refused_act, undo_refused, taken, undone, retur
 
 -- the acts that stand
 abbrev pub standing : Docket → List Act
-standing d = d.acts.items
+standing d = d.acts
 
 abbrev pub acts_of : {J : Type 0} → Acts J → List Act
 acts_of a = standing a.docket

@@ -16,17 +16,6 @@ pub enum Act {
     Strike(Sheet),
 }
 
-// What the unused places of a docket hold. By hand, since a derive can name only a variant with no field.
-impl Default for Act {
-    ghost use Rattle.orders.specs.declared.acts.Act.TheVariants.{Pin};
-
-    ghost is_default = { λ act. act ≡ Pin 0 };
-
-    fn default() -> Self {
-        Act::Pin(0)
-    }
-}
-
 impl Act {
     // It pins or bars the mark.
     pub(crate) fn names(self, mark: Mark) -> bool

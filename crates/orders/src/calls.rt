@@ -24,7 +24,7 @@ pub enum Call {
 pub struct Progress<C> {
     // How many steps it took.
     pub taken: u16,
-    // Whether the search is finished.
+    // Whether the search is finished. The place and the sheet are shown in both cases.
     pub finished: bool,
     // The place, the sheet that is held, if there is one, and its cost.
     pub place: PartSheet,

@@ -1,6 +1,7 @@
 // Orders: the acts that sheets are held to, and the search for the cheapest sheet that keeps them.
 #![tactic(auto)]
 
+mod act_list;
 mod acts;
 mod calls;
 mod docket;

@@ -10,7 +10,7 @@ use crate::search::Search;
 use crate::seeking::Seeking;
 use sheets::{Judge, Mark, Scale, Sheet};
 
-// An order whose acts may still change.
+// An order whose acts may still change. Each call on them says that the scale stays, since no type says it of one field.
 #[derive(Drop)]
 pub struct Marking<J, S> {
     pub(crate) acts: Acts<J>,

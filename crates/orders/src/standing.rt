@@ -9,9 +9,9 @@ ghost use Rattle.orders.specs.Acts.{most_acts, names, strikes, breaks};
 ghost use Rattle.orders.specs.Dockets.{refused_act, taken, undo_refused, undone, returned};
 ghost use Rattle.orders.specs.Models.{standing};
 
+use crate::act_list::ActList;
 use crate::acts::{Act, Refusal};
 use crate::docket::Docket;
-use arrayvec::ArrayVec;
 use sheets::{Mark, PartSheet, Sheet, within_count};
 
 impl Docket {
@@ -20,7 +20,7 @@ impl Docket {
         ensures { standing result ≡ [] }
     {
         Docket {
-            acts: ArrayVec::new(),
+            acts: ActList::new(),
         }
     }
 
@@ -28,28 +28,28 @@ impl Docket {
     fn count(&self) -> u8
         ensures { result ≡ length (standing self.now) }
     {
-        self.acts.len() as u8
+        self.acts.len()
     }
 
     // An act that stands calls the part-sheet dead.
     pub(crate) fn calls_dead(&self, part: PartSheet) -> bool
         ensures { result ≡ list_any (breaks part.present part.absent) (standing self.now) }
     {
-        self.acts.iter().any(|act| act.breaks(part))
+        self.acts.as_slice().iter().any(|act| act.breaks(part))
     }
 
     // An act that stands pins or bars the mark.
     fn is_named(&self, mark: Mark) -> bool
         ensures { result ≡ list_any (names mark) (standing self.now) }
     {
-        self.acts.iter().any(|act| act.names(mark))
+        self.acts.as_slice().iter().any(|act| act.names(mark))
     }
 
     // An act that stands strikes the sheet.
     fn is_struck(&self, sheet: Sheet) -> bool
         ensures { result ≡ list_any (strikes sheet) (standing self.now) }
     {
-        self.acts.iter().any(|act| act.strikes(sheet))
+        self.acts.as_slice().iter().any(|act| act.strikes(sheet))
     }
 
     // Refuses one act more where as many stand as can.

@@ -36,7 +36,7 @@ impl fmt::Display for Refusal {
 
 impl Error for Refusal {}
 
-// Why a report was not written: it is refused, or memory is wanting.
+// Why a report was not written: it is refused, or memory is wanting. Nobody passes the allocation's error on from here.
 #[derive(Clone, Copy, Debug, PartialEq, Eq)]
 pub enum ReportError {
     Refused(Refusal),

@@ -69,7 +69,7 @@ impl<'a> Body<'a> {
         Ok(n)
     }
 
-    // `n` fields, one after another.
+    // `n` fields, one after another. A `for` that pushes, since it ends at the first that fails.
     fn several<T: Field>(&mut self, n: u8) -> Result<Vec<T>, Fault>
         ensures parses { Parses (λ v. map T.meaning (vec_items v)) (times n (T.parser self.old.count) self.old.rest.now) result self.new.rest.now }
         ensures kept { self.new.count ≡ self.old.count }

@@ -157,6 +157,7 @@ pub fn read(heap: Global, bytes: &[u8]) -> Result<RuleFile, ReadError>
         return Err(Fault::Bad(Refusal::FileTooLong).located(0));
     }
     let (mut draft, mut rest) = Draft::begin(heap, bytes).map_err(|fault| fault.located(0))?;
+    // What is left gets shorter by a record at each turn, and nothing is counted.
     while !rest.is_empty() {
         let at = size - rest.len();
         rest = draft.add_first(rest).map_err(|fault| fault.located(at))?;

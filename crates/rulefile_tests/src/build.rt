@@ -68,10 +68,8 @@ fn constraint(heap: Global, elements: u8) -> Result<Vec<u8>, AllocError> {
 pub fn rule_body(heap: Global, constraints: u8, elements: u8) -> Result<Vec<u8>, AllocError> {
     let one = constraint(heap, elements)?;
     let mut body = vec![in heap; constraints]?;
-    body.extend_from_slice(one.as_slice())?;
-    for _ in 0..constraints {
-        body.extend_from_slice(one.as_slice())?;
-    }
+    let all = one.repeat(heap, usize::from(constraints) + 1)?;
+    body.extend_from_slice(all.as_slice())?;
     Ok(body)
 }
 

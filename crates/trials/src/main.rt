@@ -15,17 +15,17 @@ mod solver;
 use books::{MOST_MARKS, try_book};
 use costs::try_costs;
 use extremes::run_extremes;
-use outcomes::{line_of, outcome_of, refusal_in};
-use rulefile::read;
+use outcomes::{Sizes, line_of, outcome_of, refusal_in};
+use rulefile::{BadFile, read};
 use std::fmt::Formatter;
 use std::rc::Rc;
 use std::{fmt, fs, io};
 
-// What came of a file: its line, whether it is refused, and whether that differs from its report.
+// What came of a file: what the reader made of it, in a line too, and whether that differs from its report.
 #[derive(Drop)]
 struct Trial {
+    outcome: Result<Sizes, BadFile>,
     line: String,
-    is_refused: bool,
     is_different: bool,
 }
 
@@ -48,7 +48,7 @@ struct Files {
 impl Files {
     fn add(&mut self, trial: &Trial) {
         self.files = self.files.saturating_add(1);
-        if trial.is_refused {
+        if trial.outcome.is_err() {
             self.refused = self.refused.saturating_add(1);
         }
         if trial.is_different {
@@ -68,7 +68,7 @@ impl fmt::Display for Files {
     }
 }
 
-// The bytes of the rule file of the name.
+// The bytes of the rule file of the name. Handle and name stay two parameters: the handle is the program's, not the file's.
 fn read_bytes(rt: &HostRuntime, name: &str) -> io::Result<Vec<u8>> {
     fs::read(rt, format!(in rt.alloc(); "{name}.bin")?)
 }
@@ -79,12 +79,11 @@ fn run_trial(rt: &HostRuntime, name: &str) -> anyhow::Result<Trial> {
     let report = fs::read_to_string(rt, format!(in heap; "{name}.out")?)?;
     let outcome = outcome_of(heap, bytes.as_slice())?;
     let line = line_of(heap, outcome)?;
-    let is_refused = outcome.is_err();
-    let refusal = is_refused.then_some(line.as_str());
+    let refusal = outcome.is_err().then_some(line.as_str());
     let is_different = refusal_in(report.as_str()) != refusal;
     Ok(Trial {
+        outcome,
         line,
-        is_refused,
         is_different,
     })
 }

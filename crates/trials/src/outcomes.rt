@@ -47,7 +47,7 @@ pub fn outcome_of(heap: Global, bytes: &[u8]) -> anyhow::Result<Result<Sizes, Ba
     match read(heap, bytes) {
         Ok(file) => Ok(Ok(Sizes::from(&file))),
         Err(ReadError::Refused(bad)) => Ok(Err(bad)),
-        Err(error) => Err(error.into()),
+        Err(ReadError::Memory(error)) => Err(error.into()),
     }
 }
 
