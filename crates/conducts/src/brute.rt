@@ -34,7 +34,8 @@ impl Case {
     }
 }
 
-// The program's own test, as for all that it holds against the engine.
+// The program's own test of a mark, since it stands for what the engine is held against. Only that all sheets are gone
+// through rests on the engine's `first_marks`, which is proved.
 fn is_in(sheet: Sheet, mark: Mark) -> bool {
     mark < 64 && (sheet >> mark) & 1 == 1
 }

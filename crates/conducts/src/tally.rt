@@ -37,6 +37,7 @@ impl fmt::Display for Tally {
 }
 
 impl Tally {
+    // No `Default`: a refusal has none.
     pub fn new() -> Tally {
         Tally {
             runs: 0,

@@ -10,7 +10,8 @@ use rulefile::{RuleFile, read_or_head_alone};
 use sheets::{Sheet, within_count};
 use std::alloc::{AllocError, Global};
 
-// Why no verdict is given: it is refused, or memory is wanting. Nobody passes the allocation's error on from here.
+// Why no verdict is given: it is refused, or memory is wanting. Nobody passes the allocation's error on from here, or
+// prints this. An enum of this crate's: the definitions say other things of its cases than of those of `ReadError`.
 #[derive(Clone, Copy, Debug, PartialEq, Eq)]
 pub enum VerdictError {
     Refused(Refusal),

@@ -1,4 +1,5 @@
-// What a part-sheet settles of the rules. Constraint and part-sheet stay two parameters: each function on them is one line.
+// What a part-sheet settles of the rules. Constraint and part-sheet stay two parameters: each function
+// on them is a sum or two tests, and no other needs a name for the pair.
 ghost use Rattle.std.specs.Prelude.{◌≡◌, map};
 ghost use Rattle.rulefile.specs.Model.{constraint_of, rule_of};
 ghost use Rattle.std.specs.List.{list_all, list_any};

@@ -23,7 +23,7 @@ pub enum Verdict {
     Ungrounded(Mark),
 }
 
-// Why a verdict is refused.
+// Why a verdict is refused. No `Display`: programs print the number alone.
 #[derive(Clone, Copy, Debug, PartialEq, Eq)]
 pub enum Refusal {
     // The sheet has a mark not below the count.
@@ -31,7 +31,8 @@ pub enum Refusal {
 }
 
 impl Refusal {
-    // The number by which the refusal is known.
+    // The number by which the refusal is known. One line in each crate that refuses: each promises the numbers of its own
+    // cases.
     pub fn number(self) -> u8
         ensures { result ≡ number self }
     {

@@ -34,20 +34,6 @@ impl fmt::Display for VerdictText<'_> {
     }
 }
 
-// Displays a cost by its sums, from level 8 down, each after a space.
-#[derive(Clone, Copy)]
-struct CostText(LevelCost);
-
-impl fmt::Display for CostText {
-    fn fmt<W: fmt::Write>(&self, f: &mut Formatter<W>) -> fmt::Result {
-        for level in (1..=8u8).rev() {
-            let sum = self.0.at(level);
-            write!(f, " {sum}")?;
-        }
-        Ok(())
-    }
-}
-
 // Displays the verdict on the house sheet of a file, and its cost.
 #[derive(Clone, Copy)]
 pub struct HouseText<'a> {
@@ -74,8 +60,8 @@ impl fmt::Display for HouseText<'_> {
         for mark in (0..WIDTH).filter(|mark| has_mark(house, *mark)) {
             write!(f, " {mark}")?;
         }
-        let cost = CostText(self.cost);
+        let cost = self.cost;
         let distance = self.distance;
-        writeln!(f, " cost{cost} off {distance}")
+        writeln!(f, " cost {cost} off {distance}")
     }
 }

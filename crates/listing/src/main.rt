@@ -12,6 +12,7 @@ use std::io::Read;
 use std::rc::Rc;
 use text::FileText;
 
+// Three lines that `kiosk` has too: a call of a library would owe a promise on what a reader gives.
 fn input(rt: &HostRuntime) -> anyhow::Result<Vec<u8>> {
     let mut bytes = Vec::new(rt.alloc());
     rt.stdin().take(input_limit()).read_to_end(&mut bytes)?;

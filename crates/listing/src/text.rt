@@ -134,7 +134,7 @@ impl fmt::Display for RecordText<'_> {
 // The records of each kind that are still to come.
 #[derive(Drop)]
 struct Records<'a> {
-    // With their numbers.
+    // With their numbers, of a range: `next` of an `Enumerate` asks that the number fits, which no type says here.
     rules: Zip<Range<usize>, slice::Iter<'a, Rule>>,
     clauses: slice::Iter<'a, Clause>,
     wishes: slice::Iter<'a, Wish>,

@@ -43,7 +43,7 @@ impl Act {
     }
 }
 
-// Why a call is refused. Each refusal has the number by which it is known.
+// Why a call is refused, with the number by which it is known. No `Display`: programs print the number alone.
 #[derive(Clone, Copy, Debug, PartialEq, Eq)]
 pub enum Refusal {
     // A mark is not below the count.
@@ -59,7 +59,7 @@ pub enum Refusal {
 }
 
 impl Refusal {
-    // Its number.
+    // Its number. One line in each crate that refuses: each promises the numbers of its own cases.
     pub fn number(self) -> u8
         ensures { result ≡ number self }
     {

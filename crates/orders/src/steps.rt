@@ -86,7 +86,7 @@ impl<'a, J: Judge, S: Scale> Walk<'a, J, S> {
         most
     }
 
-    // The steps that remain. A `while`: they can be more than any number counts.
+    // The steps that remain. A `while`: they can be more than a number of 64 bits counts.
     pub(crate) fn finish(&mut self)
         ensures { Ended (J.judging self.old.judge.now) (S.scaling self.old.scale.now) self.old.search self.new.search }
     {

@@ -16,7 +16,8 @@ pub enum Refusal {
 }
 
 impl Refusal {
-    // The number by which the refusal is known.
+    // The number by which the refusal is known. One line in each crate that refuses: each promises the numbers of its own
+    // cases.
     pub fn number(self) -> u8
         ensures { result ≡ number self }
     {
@@ -36,7 +37,9 @@ impl fmt::Display for Refusal {
 
 impl Error for Refusal {}
 
-// Why a report was not written: it is refused, or memory is wanting. Nobody passes the allocation's error on from here.
+// Why a report was not written: it is refused, or memory is wanting. Nobody passes the allocation's error on from here. An
+// enum of this crate's: it prints words of its own, and the definitions say other things of its cases than of those of
+// `ReadError`.
 #[derive(Clone, Copy, Debug, PartialEq, Eq)]
 pub enum ReportError {
     Refused(Refusal),

@@ -12,6 +12,8 @@ use scales::LevelCost;
 use sheets::{Sheet, WIDTH, has_mark};
 
 // A buffer, and how many bytes at its front are written. Each text is copied straight into it: there is no second buffer.
+// Buffer and length, and no `Vec`: the buffer is lent, and its bytes behind the report stay, by a rule of the project. The
+// library's `Write` for slices tells nothing of these.
 #[derive(Drop)]
 pub(crate) struct Writer<'a> {
     out: &'a mut [u8],

@@ -12,7 +12,7 @@ pub struct Element {
 
 // Holds where the weights of the elements that hold add up to `low` at least and to `high` at most; no `high` is no
 // bound.
-#[derive(Debug, PartialEq, Eq, Drop)]
+#[derive(Drop)]
 pub struct Constraint {
     pub low: u32,
     pub high: Option<u32>,

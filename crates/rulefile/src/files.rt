@@ -8,8 +8,9 @@ use crate::wishes::Wish;
 use sheets::Sheet;
 
 // The count of marks, the house sheet, and what the later records say, in file order; `order` has their kinds. Four lists
-// and not one of all kinds: each judge and scale goes through one of them.
-#[derive(Debug, PartialEq, Eq, Drop)]
+// and not one of all kinds: each judge and scale goes through one of them. Neither files nor what they hold in lists are
+// compared or printed by anybody, so these types derive nothing for it: to prove it took a quarter of this crate's check.
+#[derive(Drop)]
 pub struct RuleFile {
     pub count: u8,
     pub house: Sheet,

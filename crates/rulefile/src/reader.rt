@@ -148,7 +148,8 @@ impl Draft {
     }
 }
 
-// The file that the bytes stand for, or why and where they are refused.
+// The file that the bytes stand for, or why and where they are refused. The allocator stays a parameter of its own and comes
+// first, as in the library's calls that allocate; so in `Draft::begin` and below.
 pub fn read(heap: Global, bytes: &[u8]) -> Result<RuleFile, ReadError>
     ensures { Reading bytes.now result }
 {

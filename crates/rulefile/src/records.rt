@@ -43,7 +43,7 @@ pub struct Head {
 }
 
 // The head holds, or a constraint of the body does not.
-#[derive(Debug, PartialEq, Eq, Drop)]
+#[derive(Drop)]
 pub struct Rule {
     pub head: Constraint,
     pub body: Vec<Constraint>,
@@ -51,7 +51,7 @@ pub struct Rule {
 }
 
 // One of the literals holds.
-#[derive(Debug, PartialEq, Eq, Drop)]
+#[derive(Drop)]
 pub struct Clause {
     pub literals: Vec<Literal>,
     ghost few: { vec_len literals ≤ 32 },

@@ -35,7 +35,8 @@ pub enum Refusal {
 }
 
 impl Refusal {
-    // The number by which the refusal is known.
+    // The number by which the refusal is known. One line in each crate that refuses: each promises the numbers of its own
+    // cases.
     pub fn number(self) -> u8
         ensures { result ≡ number self }
     {
@@ -83,8 +84,8 @@ impl fmt::Display for BadFile {
 
 impl Error for BadFile {}
 
-// Why a file was not read: it is refused, or memory is wanting. An enum for each crate, since the `From` of a type parameter
-// and that of `AllocError` would overlap.
+// Why a file was not read: it is refused, or memory is wanting. An enum of this crate's, as for each crate that has such an
+// error: each prints words of its own, and the definitions say other things of its cases.
 #[derive(Clone, Copy, Debug, PartialEq, Eq)]
 pub enum ReadError {
     Refused(BadFile),

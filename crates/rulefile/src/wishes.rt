@@ -5,7 +5,7 @@ ghost use Rattle.rulefile.specs.Ranges.{is_weight};
 use sheets::Literal;
 
 // Costs `weight` at `level` where all its literals hold; a negative weight is a gain.
-#[derive(Debug, PartialEq, Eq, Drop)]
+#[derive(Drop)]
 pub struct Wish {
     pub level: u8,
     pub weight: i16,

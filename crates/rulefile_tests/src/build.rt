@@ -1,4 +1,5 @@
-// Builds files, and checks what the reader answers.
+// Builds files, and checks what the reader answers. The allocator is a parameter of its own and comes first, as in the
+// library's calls that allocate. Tests go through their tables by a loop each: a table holds what its test gives and expects.
 use rulefile::{BadFile, ReadError, Refusal, RuleFile, read};
 use std::alloc::{AllocError, Global};
 use std::process::Abort;

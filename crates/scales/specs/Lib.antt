@@ -4,3 +4,4 @@ pub mod Distances
 pub mod Counts
 pub mod Sums
 pub mod Orders
+pub mod Words

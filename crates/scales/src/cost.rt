@@ -1,6 +1,9 @@
 // What a sheet costs at each level.
-ghost use Rattle.std.specs.Prelude.{◌≡◌};
+ghost use Rattle.std.specs.Prelude.{◌≡◌, Some};
 ghost use Rattle.scales.specs.Wishes.{cost_at};
+ghost use Rattle.scales.specs.Words.{cost_words};
+
+use std::fmt;
 
 // The costs from level 8 down to level 1, in the order in which they are compared: an array is, place by place.
 #[derive(Clone, Copy, Debug, PartialEq, Eq, PartialOrd, Ord)]
@@ -17,5 +20,19 @@ impl LevelCost {
             1..=8 => self.levels[usize::from(8 - level)],
             _ => 0,
         }
+    }
+}
+
+impl fmt::Display for LevelCost {
+    ghost output = { λ cost. Some (cost_words cost.levels) };
+
+    fn fmt<W: fmt::Write>(&self, f: &mut fmt::Formatter<W>) -> fmt::Result {
+        if let [first, rest @ ..] = self.levels.as_slice() {
+            write!(f, "{first}")?;
+            for sum in rest {
+                write!(f, " {sum}")?;
+            }
+        }
+        Ok(())
     }
 }

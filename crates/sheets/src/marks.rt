@@ -2,7 +2,7 @@
 ghost use Rattle.std.specs.Prelude.{◌≡◌, ◌↔◌, ℕ, ◌-◌, ◌^◌, ◌<◌, min, ◌||◌, IsTrue, if◌then◌else◌, ◌==◌, bit_or, nat_lt};
 ghost use Rattle.sheets.specs.Sheets.{width, has, MarksBelow};
 
-// One thing that a sheet may have, by its number.
+// One thing that a sheet may have, by its number: a plain number, which files, calls and contracts name as it is.
 pub type Mark = u8;
 
 // A set of marks: bit i stands for mark i. A plain word, by a rule of the project.

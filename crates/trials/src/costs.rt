@@ -13,11 +13,11 @@ fn wish_holds(wish: &Wish, sheet: Sheet) -> bool {
 }
 
 // What the sheet costs at the level.
-fn sum_at(file: &RuleFile, level: u8, sheet: Sheet) -> i64 {
+pub fn sum_at(file: &RuleFile, level: u8, sheet: Sheet) -> i64 {
     file.wishes
         .iter()
         .filter(|wish| wish.level == level && wish_holds(wish, sheet))
-        // The bound of a signed `sum` would need a proof.
+        // No `sum`, of signed numbers: no proof is found that it stays in its bounds.
         .fold(0i64, |sum, wish| sum.wrapping_add(i64::from(wish.weight)))
 }
 
@@ -26,7 +26,7 @@ fn same_levels(file: &RuleFile, cost: LevelCost, sheet: Sheet) -> bool {
 }
 
 // In how many marks the sheets differ.
-fn marks_apart(sheet: Sheet, other: Sheet) -> usize {
+pub fn marks_apart(sheet: Sheet, other: Sheet) -> usize {
     (0..WIDTH)
         .filter(|mark| is_in(sheet, *mark) != is_in(other, *mark))
         .count()
@@ -41,7 +41,7 @@ pub fn try_costs(file: &Rc<RuleFile>) -> Result<u64, AllocError> {
             !same_levels(file, levels.cost(*sheet), *sheet)
                 || distance.cost(*sheet) as usize != marks_apart(*sheet, file.house)
         })
-        // `count` asks for a proof that there are fewer than 2^64 sheets.
+        // No `count`, which asks that there are fewer than 2^64 sheets: of 64 marks there are as many.
         .fold(0u64, |differ, _| differ.wrapping_add(1));
     Ok(differ)
 }

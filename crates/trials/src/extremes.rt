@@ -90,12 +90,7 @@ impl Wishes {
         let file = Rc::new(heap, self.file(heap)?)?;
         let differ = try_costs(&file)?;
         let cost = Levels::new(file).cost(1);
-        print!(rt; "{self}:")?;
-        for level in (1..=8u8).rev() {
-            let sum = cost.at(level);
-            print!(rt; " {sum}")?;
-        }
-        println!(rt; ", {differ} differ")?;
+        println!(rt; "{self}: {cost}, {differ} differ")?;
         Ok(())
     }
 }

@@ -1,7 +1,9 @@
 // A second solver, by other means than the engine's: it goes through all sets of marks and takes what the sets that
 // satisfy the reduct have in common. Rules, sets and sheets are parameters, as in the definitions that it follows.
+ghost use Rattle.std.specs.Prelude.{◌≤◌, length};
+
 use judges::Verdict;
-use rulefile::{Constraint, Rule, RuleFile};
+use rulefile::{Constraint, Element, Rule, RuleFile};
 use sheets::{Literal, Mark, Sheet, first_marks};
 
 // The mark is in the sheet, by division.
@@ -19,16 +21,18 @@ pub fn holds(literal: Literal, plain: Sheet, negated: Sheet) -> bool {
 }
 
 // The weights of the plain elements in one sheet and of the "not" elements that hold in the other.
-fn weight(constraint: &Constraint, plain: Sheet, negated: Sheet) -> u64 {
-    constraint
-        .elements
+fn weight_of(elements: &[Element], plain: Sheet, negated: Sheet) -> u64
+    requires { length elements.now ≤ 32 }
+{
+    elements
         .iter()
         .filter(|element| holds(element.literal, plain, negated))
-        // `sum` asks for a proof that the weights add up to less than 2^64.
-        .fold(
-            0u64,
-            |total, element| total.wrapping_add(u64::from(element.weight)),
-        )
+        .map(|element| u64::from(element.weight))
+        .sum()
+}
+
+fn weight(constraint: &Constraint, plain: Sheet, negated: Sheet) -> u64 {
+    weight_of(&constraint.elements, plain, negated)
 }
 
 fn is_above(constraint: &Constraint, sheet: Sheet) -> bool {
