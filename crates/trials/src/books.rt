@@ -29,6 +29,16 @@ impl Tally {
         };
         *number = number.wrapping_add(1);
     }
+
+    // The sheets of both.
+    pub fn plus(self, other: Tally) -> Tally {
+        Tally {
+            lawful: self.lawful.wrapping_add(other.lawful),
+            broken: self.broken.wrapping_add(other.broken),
+            ungrounded: self.ungrounded.wrapping_add(other.ungrounded),
+            differ: self.differ.wrapping_add(other.differ),
+        }
+    }
 }
 
 impl fmt::Display for Tally {
@@ -46,6 +56,7 @@ impl fmt::Display for Tally {
     }
 }
 
+// A `for`: a `fold` would only hand the tally through.
 pub fn try_book(file: &RuleFile) -> Tally {
     let mut tally = Tally::default();
     for sheet in 0..=first_marks(file.count) {

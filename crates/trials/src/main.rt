@@ -1,27 +1,33 @@
-// Reads every file of data/ and prints, in a line for each, what was read or why it was refused; and then, in a line for
-// each small book, the verdicts on all its sheets and whether their costs are right.
+// Makes the report on every file of data/ and prints, in a line for each, what was read or why it was refused; and then, in
+// a line for each small book, the verdicts on all its sheets and whether their costs are right.
 //
-// data/names.txt has the names. NAME.bin is a rule file, and NAME.out is the report that the engine must give of it. The
-// report of a refused file is its refusal alone. A line ends in ` DIFFERS` where the reader refuses and the report does
-// not, or where the report has a refusal and the reader does not answer the same.
+// data/names.txt has the names. NAME.bin is a rule file, and NAME.out has the lines that its report must have. A line ends
+// in ` DIFFERS` where the report has other bytes.
 #![tactic(auto)]
 
 mod books;
+mod chance;
 mod costs;
+mod docket;
+mod draws;
+mod expected;
 mod extremes;
 mod outcomes;
+mod reports;
 mod solver;
 
 use books::{MOST_MARKS, try_book};
+use chance::run_chance;
 use costs::try_costs;
 use extremes::run_extremes;
-use outcomes::{Sizes, line_of, outcome_of, refusal_in};
+use outcomes::{Sizes, line_of, outcome_of};
+use reports::report_of;
 use rulefile::{BadFile, read};
 use std::fmt::Formatter;
 use std::rc::Rc;
 use std::{fmt, fs, io};
 
-// What came of a file: what the reader made of it, in a line too, and whether that differs from its report.
+// What came of a file: what the reader made of it, in a line too, and whether its report differs from what it must be.
 #[derive(Drop)]
 struct Trial {
     outcome: Result<Sizes, BadFile>,
@@ -37,7 +43,7 @@ impl fmt::Display for Trial {
     }
 }
 
-// How many files were read through, how many of them are refused, and how many differ from their report.
+// How many files there are, how many of them are refused, and how many have another report than they must have.
 #[derive(Clone, Copy, Default)]
 struct Files {
     files: u32,
@@ -64,7 +70,10 @@ impl fmt::Display for Files {
             refused,
             differ,
         } = *self;
-        write!(f, "{files} files, {refused} refused, {differ} differ")
+        write!(
+            f,
+            "{files} files, {refused} refused, {files} reports compared, {differ} differ"
+        )
     }
 }
 
@@ -76,11 +85,10 @@ fn read_bytes(rt: &HostRuntime, name: &str) -> io::Result<Vec<u8>> {
 fn run_trial(rt: &HostRuntime, name: &str) -> anyhow::Result<Trial> {
     let heap = rt.alloc();
     let bytes = read_bytes(rt, name)?;
-    let report = fs::read_to_string(rt, format!(in heap; "{name}.out")?)?;
+    let expected = fs::read(rt, format!(in heap; "{name}.out")?)?;
     let outcome = outcome_of(heap, bytes.as_slice())?;
     let line = line_of(heap, outcome)?;
-    let refusal = outcome.is_err().then_some(line.as_str());
-    let is_different = refusal_in(report.as_str()) != refusal;
+    let is_different = report_of(heap, bytes.as_slice())? != expected;
     Ok(Trial {
         outcome,
         line,
@@ -121,7 +129,8 @@ fn run(rt: &HostRuntime) -> anyhow::Result<()> {
     for name in names.lines() {
         run_book(rt, name)?;
     }
-    run_extremes(rt)
+    run_extremes(rt)?;
+    run_chance(rt)
 }
 
 fn main(rt: HostRuntime) -> anyhow::Result<()> {

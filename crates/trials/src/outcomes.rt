@@ -1,4 +1,4 @@
-// What the reader makes of a file, as text, and whether that is what a report says.
+// What the reader makes of a file, as text.
 use rulefile::{BadFile, ReadError, RuleFile, read};
 use std::alloc::{AllocError, Global};
 use std::fmt;
@@ -57,9 +57,4 @@ pub fn line_of(heap: Global, outcome: Result<Sizes, BadFile>) -> Result<String, 
         Ok(sizes) => format!(in heap; "{sizes}"),
         Err(bad) => format!(in heap; "{bad}"),
     }
-}
-
-// The refusal of the whole file that a report has as its first line. A refusal of one act has no offset.
-pub fn refusal_in(report: &str) -> Option<&str> {
-    report.lines().next().filter(|line| line.starts_with("refused ") && line.contains(" at "))
 }

@@ -1,0 +1,74 @@
+// Random books: their reports, verdicts and costs by the engine and by going through all sheets.
+use crate::books::{Tally, try_book};
+use crate::costs::try_costs;
+use crate::draws::Draw;
+use crate::expected::expected_of;
+use crate::reports::report_of;
+use rulefile::read;
+use std::fmt;
+use std::fmt::Formatter;
+use std::rc::Rc;
+
+// How many books are drawn. Each begins the generator with its own number.
+const BOOKS: u64 = 300;
+
+// What was found of the books.
+#[derive(Clone, Copy, Default)]
+struct Found {
+    sheets: Tally,
+    costs_differ: u64,
+    with_sheet: u64,
+    shared: u64,
+    acts: u64,
+    refused: u64,
+    reports_differ: u64,
+}
+
+impl fmt::Display for Found {
+    fn fmt<W: fmt::Write>(&self, f: &mut Formatter<W>) -> fmt::Result {
+        let Found {
+            sheets,
+            costs_differ,
+            with_sheet,
+            shared,
+            acts,
+            refused,
+            reports_differ,
+        } = *self;
+        writeln!(f, "{BOOKS} random books: sheets: {sheets}; costs: {costs_differ} differ")?;
+        write!(
+            f,
+            "reports: {with_sheet} with a sheet, {shared} of them with others of its cost, {acts} acts, {refused} refused, {reports_differ} differ"
+        )
+    }
+}
+
+// Draws the book of the number, and adds what is found of it.
+fn run_book(rt: &HostRuntime, number: u64, found: &mut Found) -> anyhow::Result<()> {
+    let heap = rt.alloc();
+    let bytes = Draw::new(heap, number).file()?;
+    let file = Rc::new(heap, read(heap, bytes.as_slice())?)?;
+    let expected = expected_of(heap, &file)?;
+    let is_different = report_of(heap, bytes.as_slice())?.as_slice() != expected.lines.as_bytes();
+    if is_different {
+        println!(rt; "random book {number} DIFFERS")?;
+    }
+    let costs_differ = try_costs(&file)?;
+    found.sheets = found.sheets.plus(try_book(&file));
+    found.costs_differ = found.costs_differ.wrapping_add(costs_differ);
+    found.with_sheet = found.with_sheet.wrapping_add(u64::from(expected.has_sheet));
+    found.shared = found.shared.wrapping_add(u64::from(expected.is_shared));
+    found.acts = found.acts.wrapping_add(file.acts.len() as u64);
+    found.refused = found.refused.wrapping_add(expected.refused as u64);
+    found.reports_differ = found.reports_differ.wrapping_add(u64::from(is_different));
+    Ok(())
+}
+
+pub fn run_chance(rt: &HostRuntime) -> anyhow::Result<()> {
+    let mut found = Found::default();
+    for number in 0..BOOKS {
+        run_book(rt, number, &mut found)?;
+    }
+    println!(rt; "{found}")?;
+    Ok(())
+}

@@ -1,0 +1,129 @@
+// The report that a file must have, by going through all its sheets.
+use crate::costs::{marks_apart, sum_at};
+use crate::docket::Docket;
+use crate::solver::{holds, is_in, solve};
+use judges::Verdict;
+use rulefile::{Act, RuleFile};
+use sheets::{Sheet, WIDTH, first_marks};
+use std::alloc::{AllocError, Global};
+use std::fmt;
+use std::fmt::Formatter;
+
+// What a sheet costs: the sums of the levels from 8 down, and then the distance. Of two the first that differs decides.
+#[derive(Clone, Copy, PartialEq, Eq, PartialOrd, Ord)]
+struct Cost {
+    sums: [i64; 8],
+    distance: usize,
+}
+
+fn cost_of(file: &RuleFile, sheet: Sheet) -> Cost {
+    Cost {
+        sums: [8, 7, 6, 5, 4, 3, 2, 1].map(|level| sum_at(file, level, sheet)),
+        distance: marks_apart(sheet, file.house),
+    }
+}
+
+fn keeps(act: Act, sheet: Sheet) -> bool {
+    match act {
+        Act::Pin(mark) => is_in(sheet, mark),
+        Act::Bar(mark) => !is_in(sheet, mark),
+        Act::Strike(struck) => sheet != struck,
+        Act::Undo => true,
+    }
+}
+
+// The sheet is lawful, keeps every clause, and keeps the acts.
+fn is_open(file: &RuleFile, acts: &[Act], sheet: Sheet) -> bool {
+    let keeps_clauses = file
+        .clauses
+        .iter()
+        .all(|clause| clause.literals.iter().any(|literal| holds(*literal, sheet, sheet)));
+    keeps_clauses
+        && acts.iter().all(|act| keeps(*act, sheet))
+        && solve(file, sheet) == Verdict::Lawful
+}
+
+// The cheapest sheet that is open, and of equals the earliest: the one that lacks the lowest mark on which two differ.
+fn best(file: &RuleFile, acts: &[Act]) -> Option<(Sheet, Cost)> {
+    (0..=first_marks(file.count))
+        .filter(|sheet| is_open(file, acts, *sheet))
+        .map(|sheet| (sheet, cost_of(file, sheet)))
+        .min_by_key(|best| (best.1, best.0.reverse_bits()))
+}
+
+// Displays the line of an act: that it stands, or the number by which it is refused.
+#[derive(Clone, Copy)]
+struct ActLine(Option<u8>);
+
+impl fmt::Display for ActLine {
+    fn fmt<W: fmt::Write>(&self, f: &mut Formatter<W>) -> fmt::Result {
+        match self.0 {
+            Some(number) => writeln!(f, "refused {number}"),
+            None => f.write_str("ok\n"),
+        }
+    }
+}
+
+// Displays the line of the sheet with its cost, or that there is none.
+#[derive(Clone, Copy)]
+struct SheetLine(Option<(Sheet, Cost)>);
+
+impl fmt::Display for SheetLine {
+    fn fmt<W: fmt::Write>(&self, f: &mut Formatter<W>) -> fmt::Result {
+        let Some((sheet, cost)) = self.0 else {
+            return f.write_str("no sheet\n");
+        };
+        f.write_str("sheet")?;
+        for mark in (0..WIDTH).filter(|mark| is_in(sheet, *mark)) {
+            write!(f, " {mark}")?;
+        }
+        f.write_str(" cost")?;
+        for sum in &cost.sums {
+            write!(f, " {sum}")?;
+        }
+        let distance = cost.distance;
+        writeln!(f, " off {distance}")
+    }
+}
+
+// The report that a file must have, and what it shows.
+#[derive(Drop)]
+pub struct Expected {
+    pub lines: String,
+    pub refused: usize,
+    pub has_sheet: bool,
+    // Several open sheets cost the least.
+    pub is_shared: bool,
+}
+
+// Calls the acts, and gives their lines and how many are refused.
+fn call_acts(heap: Global, acts: &[Act], docket: &mut Docket) -> Result<(String, usize), AllocError> {
+    let mut lines = String::new(heap);
+    let mut refused = 0usize;
+    for act in acts {
+        let refusal = docket.call(*act)?;
+        let line = ActLine(refusal);
+        lines.push_str(format!(in heap; "{line}")?.as_str())?;
+        refused = refused.wrapping_add(usize::from(refusal.is_some()));
+    }
+    Ok((lines, refused))
+}
+
+pub fn expected_of(heap: Global, file: &RuleFile) -> Result<Expected, AllocError> {
+    let mut docket = Docket::new(heap, file.count);
+    let (mut lines, refused) = call_acts(heap, file.acts.as_slice(), &mut docket)?;
+    let best = best(file, docket.acts());
+    let line = SheetLine(best);
+    lines.push_str(format!(in heap; "{line}")?.as_str())?;
+    let is_shared = best.is_some_and(|(first, cost)| {
+        (0..=first_marks(file.count)).any(|sheet| {
+            sheet != first && cost_of(file, sheet) == cost && is_open(file, docket.acts(), sheet)
+        })
+    });
+    Ok(Expected {
+        lines,
+        refused,
+        has_sheet: best.is_some(),
+        is_shared,
+    })
+}
