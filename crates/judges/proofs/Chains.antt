@@ -28,3 +28,7 @@ module _ (p : Literal → Bool) where
           → sum_by (λ (e : Element). e.weight) (cond b (e ∷ filter (λ (e : Element). p e.literal) es) (filter (λ (e : Element). p e.literal) es)) ≡ cond b e.weight 0 + weigh p es
       go true rest = sum_by-cons (λ (e : Element). e.weight) e (filter (λ (e : Element). p e.literal) es) ∙ ap (λ n. e.weight + n) rest
       go false rest = rest ∙ sym (zero-add (weigh p es))
+
+  pub weigh_summed : (es : List Element) → sum_by (λ (e : Element). cond (p e.literal) e.weight 0) es ≡ weigh p es
+  weigh_summed [] = refl
+  weigh_summed (e ∷ es) = sum_by-cons (λ (e : Element). cond (p e.literal) e.weight 0) e es ∙ ap (λ n. cond (p e.literal) e.weight 0 + n) (weigh_summed es)

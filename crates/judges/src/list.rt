@@ -10,7 +10,7 @@ ghost use Rattle.rulefile.proofs.Fits.{fit_parts};
 ghost use Rattle.judges.specs.Kept.{list_laws};
 
 use rulefile::{Clause, RuleFile};
-use sheets::{Interpretation, Judge, PartSheet, is_one_held, within_count};
+use sheets::{Interpretation, Judge, PartSheet, within_count};
 use std::rc::Rc;
 
 // Allows the sheets of marks below the count in which each clause of a file has a literal that holds.
@@ -31,9 +31,7 @@ impl PrinterList {
 fn are_kept(clauses: &[Clause], by: Interpretation) -> bool
     ensures { result ≡ list_all (list_any (held by.there by.among)) (map clause_of clauses.now) }
 {
-    clauses
-        .iter()
-        .all(|clause| is_one_held(&clause.literals, by))
+    clauses.iter().all(|clause| clause.is_one_held(by))
 }
 
 impl Judge for PrinterList {

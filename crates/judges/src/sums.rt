@@ -19,11 +19,14 @@ fn held_weight(elements: &[Element], by: Interpretation) -> u32
         .sum()
 }
 
-// The sum of the constraint.
+// The sum of the constraint: counted where its elements weigh the same.
 pub(crate) fn sum(constraint: &Constraint, by: Interpretation) -> u32
     ensures { result ≡ weigh (held by.there by.among) (constraint_of constraint.now).elements }
 {
-    held_weight(&constraint.elements, by)
+    match constraint.uniform() {
+        Some(uniform) => uniform.sum(by),
+        None => held_weight(&constraint.elements, by),
+    }
 }
 
 pub(crate) fn is_at_most(total: u32, high: Option<u32>) -> bool

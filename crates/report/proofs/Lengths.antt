@@ -20,7 +20,8 @@ use Rattle.rulefile.specs.Model.{wish_of}
 use Rattle.rulefile.specs.Numbers as file-number
 use Rattle.rulefile.proofs.Fits.{fit_parts}
 use Rattle.scales.specs.Wishes.{wish_cost, sum_at, top, down_from}
-use Rattle.scales.specs.Distances.{marks_where, differ_at, distance_of}
+use Rattle.sheets.specs.Counting.{marks_most}
+use Rattle.scales.specs.Distances.{differ_at, distance_of}
 use Rattle.orders.specs.declared.acts.Act.{Act as Standing}
 use Rattle.orders.specs.declared.acts.Refusal.{Refusal}
 use Rattle.orders.specs.declared.acts.Refusal.TheVariants.{MarkRange, MarkTaken, SheetStruck, DocketFull, DocketEmpty}
@@ -137,15 +138,6 @@ module _ (z n : ℕ) where
 
 -- ---- the sheet
 
-marks_where_le : (n : ℕ) (test : ℕ → Bool) → marks_where n test ≤ n
-unfolding marks_where
-marks_where_le zero test = omega arith
-marks_where_le (suc n) test = let rest = marks_where_le n (λ i. test (suc i)) in go (test 0) rest
-  where
-    go : (b : Bool) → marks_where n (λ i. test (suc i)) ≤ n → cond b 1 0 + marks_where n (λ i. test (suc i)) ≤ suc n
-    go true le = omega arith
-    go false le = omega arith
-
 sheet_length : (z distance : ℕ) (levels : List ℤ) → length (spaced signed_decimal levels) ≤ 96 → distance < 100 → length (sheet_line z levels distance) ≤ 306
 unfolding sheet_line
 sheet_length z distance levels short lt =
@@ -170,7 +162,7 @@ module _ (file : RuleFile) where
   answer_length (Some z) =
       let sums = sum_at (wish_cost z) (file_of file).wishes in
       let each : (m : ℕ) → length (signed_decimal (sums m)) ≤ 11 = λ m. sum_length (sums m) (length file.wishes.items) few_wishes (sum_bounds z m file.wishes.items) in
-      sheet_length z ((distance_of file.house).cost z) (down_from top sums) (length-spaced-le signed_decimal 11 (down_from top sums) (down_from_short top sums each)) (omega (arith, marks_where_le width (differ_at z file.house)))
+      sheet_length z ((distance_of file.house).cost z) (down_from top sums) (length-spaced-le signed_decimal 11 (down_from top sums) (down_from_short top sums each)) (omega (arith, marks_most width (differ_at z file.house)))
 
   pub lines_short : (held : Option ℕ) → length (act_lines file.count [] file.acts.items ++ answer_line (file_of file) held) ≤ 4096
   lines_short held =

@@ -1,6 +1,8 @@
 pub mod Fields
 pub mod Steps
 pub mod Sound
+pub mod Marks
+pub mod Counted
 pub mod Frames
 pub mod Drafts
 pub mod Fits

@@ -118,7 +118,7 @@ gives_literal count bs =
     let P : Literal → Type 0 = λ l. l.mark < count in
     gives_then P (field 1 bs) _ (λ b rest. gives_check P (ltb (b % 128) count) MarkRange rest _ (λ t _ _. ltb-true (b % 128) count t))
 
-gives_literals : (count n : ℕ) (bs : List ℕ) → Gives (LiteralsBelow count) (times n (literal count) bs)
+pub gives_literals : (count n : ℕ) (bs : List ℕ) → Gives (LiteralsBelow count) (times n (literal count) bs)
 gives_literals count = gives_times (λ (l : Literal). l.mark < count) (literal count) (gives_literal count)
 
 gives_element : (count : ℕ) (bs : List ℕ) → Gives (λ (e : Element). e.literal.mark < count) (element count bs)
@@ -126,6 +126,9 @@ unfolding element
 gives_element count bs =
     let P : Element → Type 0 = λ e. e.literal.mark < count in
     gives_after (λ (l : Literal). l.mark < count) P (literal count bs) _ (gives_literal count bs) (λ l rest low. gives_then P (field 2 rest) _ (λ _ _. low))
+
+pub gives_elements : (count n : ℕ) (bs : List ℕ) → Gives (AllByRecursion (λ (e : Element). e.literal.mark < count)) (times n (element count) bs)
+gives_elements count = gives_times (λ (e : Element). e.literal.mark < count) (element count) (gives_element count)
 
 gives_constraint : (count : ℕ) (bs : List ℕ) → Gives (ConstraintBelow count) (constraint count bs)
 unfolding constraint

@@ -8,7 +8,7 @@ use Rattle.rulefile.specs.declared.refusals.ReadError.{ReadError}
 use Rattle.rulefile.specs.declared.refusals.ReadError.TheVariants.{Refused, Memory as NoMemory}
 use Rattle.rulefile.specs.declared.files.RuleFile.{RuleFile}
 use Rattle.rulefile.specs.declared.frame.Record.{Record}
-use Rattle.rulefile.specs.declared.reader.Draft.{Draft}
+use Rattle.rulefile.specs.declared.draft.Draft.{Draft}
 use Rattle.rulefile.specs.Model.{FileModel, model_of}
 use Rattle.rulefile.specs.Parser.{Parse, took, fails, Parser, ◌>>=◌, ◌>>◌, pure, parsed}
 use Rattle.rulefile.specs.Format.{room_at}

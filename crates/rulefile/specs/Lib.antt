@@ -2,6 +2,7 @@ pub mod Numbers
 pub mod Words
 pub mod Ranges
 pub mod Model
+pub mod Uniform
 pub mod Limits
 pub mod Parser
 pub mod Format

@@ -1,5 +1,6 @@
 // The fields of a record's body, read one after another.
-ghost use Rattle.std.specs.Prelude.{◌≡◌, ℕ, List, [], map, vec_items};
+ghost use Rattle.std.specs.Prelude.{◌≡◌, ◌≤◌, ℕ, List, [], map, vec_items};
+ghost use Rattle.sheets.specs.Sheets.{width};
 ghost use Rattle.sheets.specs.declared.literals.Literal.{Literal};
 ghost use Rattle.rulefile.specs.Ranges.{is_weight};
 ghost use Rattle.rulefile.specs.declared.constraints.Element.{Element};
@@ -12,8 +13,9 @@ ghost use Rattle.rulefile.specs.Answers.{Parses};
 use crate::constraints::{Constraint, Element};
 use crate::records::{Act, Clause, Head, Rule};
 use crate::refusals::{Fault, Refusal};
+use crate::uniform::Uniform;
 use crate::wishes::Wish;
-use sheets::{Literal, WIDTH, within_count};
+use sheets::{Literal, LiteralSet, WIDTH, within_count};
 use std::alloc::Global;
 
 // Stands for no high bound.
@@ -25,6 +27,7 @@ pub struct Body<'a> {
     pub heap: Global,
     pub count: u8,
     pub rest: &'a [u8],
+    ghost few: { count ≤ width },
 }
 
 // What can be read from the front of a body.
@@ -151,11 +154,13 @@ impl Field for Constraint {
         let low = u32::from_le_bytes(body.bytes()?);
         let top = u32::from_le_bytes(body.bytes()?);
         let n = body.within(0, 32)?;
-        let elements = body.several(n)?;
+        let elements: Vec<Element> = body.several(n)?;
+        let uniform = Uniform::of(&elements);
         Ok(Constraint {
             low,
             high: high_of(top),
             elements,
+            uniform,
         })
     }
 }
@@ -213,8 +218,9 @@ impl Field for Clause {
 
     fn read(body: &mut Body<'_>) -> Result<Clause, Fault> {
         let n = body.within(0, 32)?;
-        let literals = body.several(n)?;
-        Ok(Clause { literals })
+        let literals: Vec<Literal> = body.several(n)?;
+        let set = LiteralSet::of(&literals);
+        Ok(Clause { literals, set })
     }
 }
 
@@ -239,11 +245,13 @@ impl Field for Wish {
             return Err(Fault::Bad(Refusal::OutOfRange));
         }
         let n = body.within(1, 16)?;
-        let literals = body.several(n)?;
+        let literals: Vec<Literal> = body.several(n)?;
+        let set = LiteralSet::of(&literals);
         Ok(Wish {
             level,
             weight,
             literals,
+            set,
         })
     }
 }

@@ -1,6 +1,9 @@
 // Weight constraints.
-ghost use Rattle.std.specs.Prelude.{◌≤◌, vec_len};
+ghost use Rattle.std.specs.Prelude.{◌≡◌, ◌≤◌, vec_len, vec_items, Some};
+ghost use Rattle.rulefile.specs.declared.uniform.Uniform.{Uniform};
+ghost use Rattle.rulefile.specs.Uniform.{AreUniform};
 
+use crate::uniform::Uniform;
 use sheets::Literal;
 
 // A literal with the weight that counts where it holds.
@@ -17,5 +20,17 @@ pub struct Constraint {
     pub low: u32,
     pub high: Option<u32>,
     pub elements: Vec<Element>,
+    // The elements again, where they weigh the same.
+    pub(crate) uniform: Option<Uniform>,
     ghost few: { vec_len elements ≤ 32 },
+    ghost alike: { (u : Uniform) → uniform ≡ Some u → AreUniform (vec_items elements) u },
+}
+
+impl Constraint {
+    // The elements, where they weigh the same and none stands twice.
+    pub fn uniform(&self) -> Option<Uniform>
+        ensures { result ≡ self.now.uniform }
+    {
+        self.uniform
+    }
 }

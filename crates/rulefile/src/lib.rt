@@ -3,12 +3,14 @@
 
 mod body;
 mod constraints;
+mod draft;
 mod files;
 mod frame;
 mod inputs;
 mod reader;
 mod records;
 mod refusals;
+mod uniform;
 mod wishes;
 
 pub use constraints::{Constraint, Element};
@@ -17,4 +19,5 @@ pub use inputs::input_limit;
 pub use reader::{read, read_or_head_alone};
 pub use records::{Act, Clause, Kind, Rule};
 pub use refusals::{BadFile, ReadError, Refusal};
+pub use uniform::Uniform;
 pub use wishes::Wish;

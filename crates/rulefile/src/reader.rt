@@ -7,30 +7,16 @@ ghost use Rattle.rulefile.specs.Laws.{Fits};
 ghost use Rattle.rulefile.specs.Reading.{Reading};
 
 use crate::body::{Body, Field};
+use crate::draft::Draft;
 use crate::files::RuleFile;
 use crate::frame::cut;
-use crate::records::{Act, Clause, Head, Kind, Rule};
+use crate::records::{Head, Kind};
 use crate::refusals::{Fault, ReadError, Refusal};
-use crate::wishes::Wish;
-use sheets::Sheet;
 use std::alloc::{AllocError, Global};
 
 const MOST_BYTES: usize = 32_768;
 
 const MOST_OF_KIND: usize = 256;
-
-// A file that is not yet read to its end. It is no RuleFile, whose limits each `?` on the way would have to prove.
-#[derive(Drop)]
-pub struct Draft {
-    heap: Global,
-    count: u8,
-    house: Sheet,
-    rules: Vec<Rule>,
-    clauses: Vec<Clause>,
-    wishes: Vec<Wish>,
-    acts: Vec<Act>,
-    order: Vec<Kind>,
-}
 
 // Whether one more of a kind may be read, where `n` are.
 fn room(n: usize) -> Result<(), Refusal>

@@ -1,9 +1,13 @@
 // The records of a file.
-ghost use Rattle.std.specs.Prelude.{◌≤◌, vec_len};
+ghost use Rattle.std.specs.Prelude.{◌≡◌, ◌≤◌, vec_len, vec_items};
+ghost use Rattle.std.specs.List.{list_any};
+ghost use Rattle.sheets.specs.Sheets.{width};
+ghost use Rattle.sheets.specs.Literals.{held};
+ghost use Rattle.sheets.specs.LiteralSets.{Stands};
 
 use crate::constraints::Constraint;
 use crate::refusals::Refusal;
-use sheets::{Literal, Mark, Sheet};
+use sheets::{Interpretation, Literal, LiteralSet, Mark, Sheet};
 
 // What a record is.
 #[derive(Clone, Copy, Debug, PartialEq, Eq)]
@@ -40,6 +44,7 @@ impl TryFrom<u16> for Kind {
 pub struct Head {
     pub count: u8,
     pub house: Sheet,
+    ghost few: { count ≤ width },
 }
 
 // The head holds, or a constraint of the body does not.
@@ -54,7 +59,19 @@ pub struct Rule {
 #[derive(Drop)]
 pub struct Clause {
     pub literals: Vec<Literal>,
+    // The literals again.
+    pub(crate) set: LiteralSet,
     ghost few: { vec_len literals ≤ 32 },
+    ghost same: { Stands set.plain set.nots (vec_items literals) },
+}
+
+impl Clause {
+    // At least one of the literals is held.
+    pub fn is_one_held(&self, by: Interpretation) -> bool
+        ensures { result ≡ list_any (held by.there by.among) (vec_items self.now.literals) }
+    {
+        self.set.is_one_held(by)
+    }
 }
 
 // A call on a marking order. Its marks are tested when it is called, not when it is read.

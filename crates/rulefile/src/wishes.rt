@@ -1,8 +1,11 @@
 // Wishes.
-ghost use Rattle.std.specs.Prelude.{◌≡◌, ◌≤◌, true, vec_len};
+ghost use Rattle.std.specs.Prelude.{◌≡◌, ◌≤◌, true, vec_len, vec_items};
+ghost use Rattle.std.specs.List.{list_all};
+ghost use Rattle.sheets.specs.Literals.{held};
+ghost use Rattle.sheets.specs.LiteralSets.{Stands};
 ghost use Rattle.rulefile.specs.Ranges.{is_weight};
 
-use sheets::Literal;
+use sheets::{Interpretation, Literal, LiteralSet};
 
 // Costs `weight` at `level` where all its literals hold; a negative weight is a gain.
 #[derive(Drop)]
@@ -10,9 +13,21 @@ pub struct Wish {
     pub level: u8,
     pub weight: i16,
     pub literals: Vec<Literal>,
+    // The literals again.
+    pub(crate) set: LiteralSet,
     ghost low: { 1 ≤ level },
     ghost high: { level ≤ 8 },
     ghost weighed: { is_weight weight ≡ true },
     ghost some: { 1 ≤ vec_len literals },
     ghost few: { vec_len literals ≤ 16 },
+    ghost same: { Stands set.plain set.nots (vec_items literals) },
+}
+
+impl Wish {
+    // Each of the literals is held.
+    pub fn are_all_held(&self, by: Interpretation) -> bool
+        ensures { result ≡ list_all (held by.there by.among) (vec_items self.now.literals) }
+    {
+        self.set.are_all_held(by)
+    }
 }

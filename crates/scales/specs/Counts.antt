@@ -1,4 +1,4 @@
--- The marks of a word, counted, and the laws of the distance.
+-- Where two words differ, and the laws of the distance.
 use Rattle.std.specs.Prelude.{◌≡◌, ℕ, zero, suc, ◌+◌, ◌/◌, ◌%◌, ◌^◌, ◌<◌, ◌≤◌, Bool, true, false, cond, not, ◌&&◌, ◌||◌, ◌==◌, bit_xor, nat_eq, nat_lt, refl}
 use Rattle.std.proofs.Common.{sym, ap, ap₂, ◌∙◌, inl, inr, ⊎_elim, arith}
 use Rattle.std.proofs.Math.Nat.{pow-succ'}
@@ -12,42 +12,8 @@ use Rattle.sheets.specs.Scaling.{ScaleLaws}
 use Rattle.sheets.specs.Bits.{has_zero, has_suc}
 use Rattle.sheets.specs.Parts.{apart_turned}
 use Rattle.sheets.specs.Scales.{order_from}
-use Rattle.scales.specs.Distances.{marks_where, differ_at, distance_of}
-
--- ---- counts
-
-marks_same : (n : ℕ) (f g : ℕ → Bool) → ((i : ℕ) → i < n → f i ≡ g i) → marks_where n f ≡ marks_where n g
-unfolding marks_where
-marks_same zero f g same = refl
-marks_same (suc n) f g same =
-    ap₂ (λ b m. cond b 1 0 + m) (same 0 (omega arith)) (marks_same n (λ i. f (suc i)) (λ i. g (suc i)) (λ i lt. same (suc i) (omega arith)))
-
-marks_le : (n : ℕ) (f g : ℕ → Bool) → ((i : ℕ) → f i ≡ true → g i ≡ true) → marks_where n f ≤ marks_where n g
-unfolding marks_where
-marks_le zero f g le = omega arith
-marks_le (suc n) f g le =
-    let rest = marks_le n (λ i. f (suc i)) (λ i. g (suc i)) (λ i. le (suc i)) in
-    let first = digit (f 0) (g 0) (le 0) in
-    omega arith
-  where
-    digit : (b c : Bool) → (b ≡ true → c ≡ true) → cond b 1 0 ≤ cond c 1 0
-    digit true c h = let e : ◌≡◌ {A = ℕ} (cond c 1 0) 1 = ap (λ x. cond {A = ℕ} x 1 0) (h refl) in omega arith
-    digit false c h = omega arith
-
--- the ones of a word are its marks
-ones_marks : (n z : ℕ) → z < 2 ^ n → ones z ≡ marks_where n (has z)
-unfolding marks_where ones ones_in
-ones_marks zero z p = let e : z ≡ 0 = omega arith in ap ones e
-ones_marks (suc n) z p =
-    ones_step z
-    ∙ ap₂ (λ d m. d + m) (digit (z % 2) (omega arith) ∙ ap (λ b. cond b 1 0) (sym (has_zero z))) (ones_marks n (z / 2) (omega (arith, pow-succ' 2 n)))
-    ∙ ap (λ m. cond (has z 0) 1 0 + m) (marks_same n (has (z / 2)) (λ i. has z (suc i)) (λ i lt. sym (has_suc z i)))
-  where
-    digit : (d : ℕ) → d < 2 → d ≡ cond (d == 1) 1 0
-    digit d p = grind (arith, nat_tests)
-
-pub ones_where : (z : ℕ) (test : ℕ → Bool) → z < 2 ^ width → ((i : ℕ) → has z i ≡ test i) → ones z ≡ marks_where width test
-ones_where z test word same = ones_marks width z word ∙ marks_same width (has z) test (λ i lt. same i)
+use Rattle.sheets.specs.Counting.{marks_same, marks_le}
+use Rattle.scales.specs.Distances.{differ_at, distance_of}
 
 -- ---- exclusive or
 

@@ -1,12 +1,8 @@
 -- The distance from the house sheet as a scale.
-use Rattle.std.specs.Prelude.{ℕ, zero, suc, ◌+◌, Bool, cond, not, ◌&&◌, ◌||◌, ltb}
+use Rattle.std.specs.Prelude.{ℕ, Bool, cond, not, ◌&&◌, ◌||◌, ltb}
 use Rattle.sheets.specs.Sheets.{width, has}
+use Rattle.sheets.specs.Counting.{marks_where}
 use Rattle.sheets.specs.Scaling.{Scaling}
-
--- how many of the first n marks pass the test: mark 0, and those after it
-unfoldable pub marks_where : ℕ → (ℕ → Bool) → ℕ
-marks_where zero test = 0
-marks_where (suc n) test = cond (test 0) 1 0 + marks_where n (λ i. test (suc i))
 
 -- one of the sheets y and z has mark i, and the other lacks it
 abbrev pub differ_at : ℕ → ℕ → ℕ → Bool

@@ -5,13 +5,10 @@ ghost use Rattle.scales.specs.Wishes.{wish_cost, sum_at, cost_at, Dominates};
 ghost use Rattle.scales.specs.Sums.{levels_laws};
 
 use crate::cost::LevelCost;
-use crate::wishes::level_floor;
+use crate::wishes::level_floors;
 use rulefile::RuleFile;
 use sheets::{PartSheet, Scale, Sheet};
 use std::rc::Rc;
-
-// Every level, in the order in which costs are compared.
-const LEVELS: [u8; 8] = [8, 7, 6, 5, 4, 3, 2, 1];
 
 // Costs a sheet by the wishes of a file, which it shares with judges and other scales.
 #[derive(Drop)]
@@ -52,7 +49,7 @@ impl Scale for Levels {
 
     fn floor(&self, part: PartSheet) -> LevelCost {
         LevelCost {
-            levels: LEVELS.map(|level| level_floor(&self.file, level, part)),
+            levels: level_floors(&self.file, part),
         }
     }
 

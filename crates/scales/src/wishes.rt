@@ -2,32 +2,30 @@
 ghost use Rattle.std.specs.Prelude.{◌≡◌};
 ghost use Rattle.rulefile.specs.Answers.{file_of};
 ghost use Rattle.rulefile.specs.Model.{wish_of};
-ghost use Rattle.scales.specs.Wishes.{wish_floor, sum_at};
+ghost use Rattle.scales.specs.Wishes.{wish_floor, sum_at, top, down_from};
 
 use rulefile::{RuleFile, Wish};
-use sheets::{PartSheet, are_all_held};
+use sheets::PartSheet;
 
 fn wish_floor(wish: &Wish, part: PartSheet) -> i16
     ensures { result ≡ wish_floor part.present part.absent (wish_of wish.now) }
 {
-    if are_all_held(&wish.literals, part.sure()) {
+    if wish.are_all_held(part.sure()) {
         wish.weight
-    } else if are_all_held(&wish.literals, part.possible()) {
+    } else if wish.are_all_held(part.possible()) {
         wish.weight.min(0)
     } else {
         0
     }
 }
 
-// The floors of the wishes of a level, added up. A `for`: that the sum of a chain of signed numbers fits gets no proof.
-pub(crate) fn level_floor(file: &RuleFile, level: u8, part: PartSheet) -> i32
-    ensures { result ≡ sum_at (wish_floor part.present part.absent) (file_of file.now).wishes level }
+// The floors of the wishes, added up level by level from the top level down. A `for`: one pass adds to eight sums.
+pub(crate) fn level_floors(file: &RuleFile, part: PartSheet) -> [i32; 8]
+    ensures { result ≡ down_from top (sum_at (wish_floor part.present part.absent) (file_of file.now).wishes) }
 {
-    let mut sum = 0i32;
+    let mut sums = [0i32; 8];
     for wish in file.wishes.as_slice() {
-        if wish.level == level {
-            sum += i32::from(wish_floor(wish, part));
-        }
+        sums[usize::from(8 - wish.level)] += i32::from(wish_floor(wish, part));
     }
-    sum
+    sums
 }

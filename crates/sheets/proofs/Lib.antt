@@ -1,3 +1,4 @@
 pub mod Subsets
 pub mod Lists
 pub mod Held
+pub mod LiteralSets

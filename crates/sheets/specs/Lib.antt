@@ -6,3 +6,5 @@ pub mod Judges
 pub mod Parts
 pub mod Bits
 pub mod Scales
+pub mod LiteralSets
+pub mod Counting

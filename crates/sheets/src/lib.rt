@@ -4,6 +4,7 @@
 mod both;
 mod first_then;
 mod judge;
+mod literal_sets;
 mod literals;
 mod marks;
 mod part;
@@ -12,6 +13,7 @@ mod scale;
 pub use both::Both;
 pub use first_then::FirstThen;
 pub use judge::Judge;
+pub use literal_sets::LiteralSet;
 pub use literals::{Interpretation, Literal, are_all_held, is_one_held};
 pub use marks::{Mark, Sheet, WIDTH, first_marks, has_mark, with_mark, within_count};
 pub use part::PartSheet;

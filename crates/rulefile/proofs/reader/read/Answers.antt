@@ -1,5 +1,5 @@
 use Rattle.std.proofs.Common.{◌≡◌, ℕ, ◌-◌, ◌<◌, List, length, Ok, Err, sym, ap, ◌∙◌, arith, rules, Bor}
-use Rattle.rulefile.specs.declared.reader.Draft.{Draft}
+use Rattle.rulefile.specs.declared.draft.Draft.{Draft}
 use Rattle.rulefile.specs.Answers.{located_at}
 use Rattle.rulefile.proofs.Accepted.{accepted}
 use Rattle.rulefile.proofs.Complete.{reading}

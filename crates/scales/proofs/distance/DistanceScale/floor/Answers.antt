@@ -3,8 +3,9 @@ use lib.Bits.{bit_and, bit_or, bit_xor, and_lt, or_lt, xor_lt}
 use lib.Count.{ones}
 use Rattle.sheets.specs.Sheets.{width, has}
 use Rattle.sheets.specs.Bits.{has_and, has_or}
-use Rattle.scales.specs.Distances.{marks_where, differ_at}
-use Rattle.scales.specs.Counts.{ones_where, has_xor}
+use Rattle.sheets.specs.Counting.{marks_where, ones_where}
+use Rattle.scales.specs.Distances.{differ_at}
+use Rattle.scales.specs.Counts.{has_xor}
 use Rattle.scales.proofs.distance.DistanceScale.floor.Goals as goal
 
 -- the ones of the word are the decided marks that differ
@@ -13,7 +14,7 @@ decided : (p a house : ℕ) → p < 2 ^ width → a < 2 ^ width → house < 2 ^ 
 decided p a house u v w =
     ones_where (bit_and (bit_or p a) (bit_xor p house)) (λ i. (has p i || has a i) && differ_at p house i)
     (and_lt width (bit_or p a) (bit_xor p house) (or_lt width p a u v) (xor_lt width p house u w))
-    (λ i. has_and (bit_or p a) (bit_xor p house) i ∙ ap₂ (λ b c. b && c) (has_or p a i) (has_xor p house i))
+    (λ i lt. has_and (bit_or p a) (bit_xor p house) i ∙ ap₂ (λ b c. b && c) (has_or p a i) (has_xor p house i))
 
 pub returns : goal.returns
 returns c =

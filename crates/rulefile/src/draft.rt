@@ -1,0 +1,22 @@
+// Files that are not yet read to their end.
+ghost use Rattle.std.specs.Prelude.{◌≤◌};
+ghost use Rattle.sheets.specs.Sheets.{width};
+
+use crate::records::{Act, Clause, Kind, Rule};
+use crate::wishes::Wish;
+use sheets::Sheet;
+use std::alloc::Global;
+
+// A file that is not yet read to its end. It is no RuleFile, whose limits each `?` on the way would have to prove.
+#[derive(Drop)]
+pub struct Draft {
+    pub(crate) heap: Global,
+    pub(crate) count: u8,
+    pub(crate) house: Sheet,
+    pub(crate) rules: Vec<Rule>,
+    pub(crate) clauses: Vec<Clause>,
+    pub(crate) wishes: Vec<Wish>,
+    pub(crate) acts: Vec<Act>,
+    pub(crate) order: Vec<Kind>,
+    ghost few: { count ≤ width },
+}
