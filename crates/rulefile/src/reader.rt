@@ -15,16 +15,21 @@ use crate::wishes::Wish;
 use sheets::Sheet;
 use std::alloc::{AllocError, Global};
 
+// How many bytes a file can have.
 const MOST_BYTES: usize = 32_768;
 
+// How many records of one kind a file can have.
 const MOST_OF_KIND: usize = 256;
 
-// A file that is not yet read to its end. It is no RuleFile, whose limits each `?` on the way would have to prove.
+// A file that is not yet read to its end. No `RuleFile`, whose limits each `?` on the way would have to prove.
 #[derive(Drop)]
 pub struct Draft {
+    // The memory for what is read.
     heap: Global,
+    // From the head.
     count: u8,
     house: Sheet,
+    // What the records say that were read after it, and the kinds of them all, in file order.
     rules: Vec<Rule>,
     clauses: Vec<Clause>,
     wishes: Vec<Wish>,

@@ -10,9 +10,12 @@ pub struct Wish {
     pub level: u8,
     pub weight: i16,
     pub literals: Vec<Literal>,
+    // The level is from 1 to 8.
     ghost low: { 1 ≤ level },
     ghost high: { level ≤ 8 },
+    // The weight is in its range.
     ghost weighed: { is_weight weight ≡ true },
+    // A wish has 1 to 16 literals.
     ghost some: { 1 ≤ vec_len literals },
     ghost few: { vec_len literals ≤ 16 },
 }
