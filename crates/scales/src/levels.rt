@@ -16,10 +16,12 @@ const LEVELS: [u8; 8] = [8, 7, 6, 5, 4, 3, 2, 1];
 // Costs a sheet by the wishes of a file, which it shares with judges and other scales.
 #[derive(Drop)]
 pub struct Levels {
+    // Its wishes are what a sheet costs.
     file: Rc<RuleFile>,
 }
 
 impl Levels {
+    // The wishes of the file.
     pub fn new(file: Rc<RuleFile>) -> Levels
         ensures { result.file ≡ file }
     {
@@ -48,7 +50,7 @@ impl Scale for Levels {
 
     ghost scaling = { λ l. levels_of (wishes_of l) };
 
-    ghost lawful = { λ l. levels_laws (wishes_of l) };
+    ghost keeps_laws = { λ l. levels_laws (wishes_of l) };
 
     fn floor(&self, part: PartSheet) -> LevelCost {
         LevelCost {
