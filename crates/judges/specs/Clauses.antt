@@ -11,7 +11,8 @@ use Rattle.rulefile.specs.Model.{FileModel}
 abbrev pub kept : List (List Literal) → Sheet → Bool
 kept clauses z = list_all (list_any (holds z)) clauses
 
--- by the present marks p and the absent marks a: a present mark is not below the count, or a clause has no literal that holds in any sheet within
+-- by the present marks p and the absent marks a: a present mark is not below the count, or a clause has no literal that
+-- holds in any sheet within
 abbrev pub list_dead : Count → List (List Literal) → Sheet → Sheet → Bool
 list_dead count clauses p a = not (nat_lt p (2 ^ count)) || not (list_all (list_any (held (others a) p)) clauses)
 

@@ -17,7 +17,8 @@ pub record ClosuresStand : Type 0 where
   pub decides : (program : List RuleModel) (z : Sheet) → Decides (lawful program z) (AnswerSet program z)
   pub verdict : (program : List RuleModel) (z : Sheet) (v w : Verdict) → Says program z v → Says program z w → v ≡ w
 
--- within the part-sheet with the present marks p and the absent marks a, the least sum counts the literals that hold in every sheet within, and the greatest those that hold in some
+-- of a part-sheet by its present marks p and its absent marks a: the least sum counts the literals that hold in every sheet
+-- within, and the greatest those that hold in some
 pub record SumsStand : Type 0 where
   pub every : (p a : Sheet) (l : Literal) → Part p a → Decides (held p (others a) l) ((z : Sheet) → Within p a z → Holds z l)
   pub some : (p a : Sheet) (l : Literal) → Part p a → Decides (held (others a) p l) ((z : Sheet) × Within p a z × Holds z l)

@@ -12,8 +12,8 @@ use Rattle.rulefile.specs.Model.{WishModel}
 abbrev pub wish_cost : Sheet → WishModel → ℤ
 wish_cost z w = cond (list_all (holds z) w.literals) w.weight (pos 0)
 
--- within a part-sheet with the present marks p and the absent marks a: the weight if the wish holds in every sheet, 0 if one literal fails in all, else the smaller
--- of the weight and 0
+-- within a part-sheet, by its present marks p and its absent marks a: the weight if the wish holds in every sheet, 0 if one
+-- literal fails in all, else the smaller of the weight and 0
 abbrev pub wish_floor : Sheet → Sheet → WishModel → ℤ
 wish_floor p a w =
     cond (list_all (held p (others a)) w.literals) w.weight (cond (list_all (held (others a) p) w.literals) (int_min w.weight (pos 0)) (pos 0))
