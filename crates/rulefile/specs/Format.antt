@@ -143,7 +143,7 @@ kind_of n =
     (cond (n == 5) (Ok ActKind)
     (Err UnknownKind)))))
 
--- where n of a kind are read, one more may be
+-- where n of a kind are read, one more may be, up to `most_of_kind`
 abbrev pub room_at : ℕ → Result (Unit {0}) Refusal
 room_at n = cond (nat_lt n most_of_kind) (Ok tt) (Err TooManyOfKind)
 

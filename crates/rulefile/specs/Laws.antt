@@ -19,7 +19,7 @@ pub record RecordBytes : Type 0 where
 abbrev pub bytes_of : RecordBytes → List ℕ
 bytes_of r = r.size ++ (r.kind ++ r.body)
 
--- four length bytes and two kind bytes; the length counts kind and body, and is no more than a record can say
+-- four length bytes and two kind bytes; the length counts kind and body, and is at most `most_length`
 pub record Framed (r : RecordBytes) : Type 0 where
   pub four : length r.size ≡ 4
   pub two : length r.kind ≡ 2
@@ -53,7 +53,7 @@ abbrev pub RuleBelow : Count → RuleModel → Type 0
 RuleBelow n r = ConstraintBelow n r.head × AllByRecursion (ConstraintBelow n) r.body
 
 -- the limits of a file: the count is from 1 to the width, the marks of the house sheet, of rules, clauses and wishes are
--- below it, and there are no more of a kind than there can be; of the marks of acts nothing is said
+-- below it, and there are at most `most_of_kind` of a kind; of the marks of acts nothing is said
 pub record Fits (f : FileModel) : Type 0 where
   pub some : 1 ≤ f.count
   pub few : f.count ≤ width

@@ -19,12 +19,12 @@ constraint_below n k = list_all (λ (e : Element). nat_lt e.literal.mark n) k.el
 abbrev pub rule_below : Count → RuleModel → Bool
 rule_below n r = constraint_below n r.head && list_all (constraint_below n) r.body
 
--- no more than a file can have of a kind
+-- at most `most_of_kind`
 abbrev pub is_few : {A : Type 0} → List A → Bool
 is_few xs = nat_le (length xs) most_of_kind
 
 -- the count is from 1 to the width, each mark of the house sheet, of a rule, a clause or a wish is below it, and there are
--- no more of a kind than there can be
+-- at most `most_of_kind` of a kind
 unfoldable pub is_fit : FileModel → Bool
 is_fit f =
     nat_le 1 f.count
