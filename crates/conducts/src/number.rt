@@ -24,7 +24,7 @@ impl Scale for Number {
 
     ghost scaling = { λ n. number_of n.counted };
 
-    ghost lawful = { λ n. number_laws n.counted };
+    ghost keeps_laws = { λ n. number_laws n.counted };
 
     // Each sheet within has the present marks.
     fn floor(&self, part: PartSheet) -> u64 {

@@ -61,7 +61,7 @@ fn is_one_within(listed: &[Sheet], present: Sheet, absent: Sheet) -> bool
 impl Judge for Table {
     ghost judging = { λ t. table_of t.count t.listed.items };
 
-    ghost lawful = { λ t. table_laws t.count t.listed.items t.some t.few t.inside };
+    ghost keeps_laws = { λ t. table_laws t.count t.listed.items t.some t.few t.inside };
 
     fn count(&self) -> u8 {
         self.count

@@ -1,4 +1,4 @@
--- The first rule that does not hold.
+-- Lemmas; no contract names what stands here. The first rule that does not hold.
 use Rattle.std.specs.Prelude.{◌≡◌, ℕ, zero, suc, ◌+◌, ◌<◌, Bool, true, false, not, List, [], ◌∷◌, map, length, vec_items, slice_index_or, refl}
 use Rattle.std.proofs.Common.{sym, ap, ◌∙◌, arith, below_more}
 use Rattle.std.proofs.lemmas.List.{get_or-map}
@@ -18,7 +18,7 @@ all_at p [] h k lt d = absurd (omega arith)
 all_at p (x ∷ xs) h zero lt d = (and_parts (p x) (list_all p xs) h).0
 all_at p (x ∷ xs) h (suc k) lt d = all_at p xs (and_parts (p x) (list_all p xs) h).1 k (omega arith) d
 
--- the rules below n hold
+-- the rules below n hold; d is what a list gives beyond its end, and as k is within, any will do
 abbrev pub HeldBelow : ℕ → List RuleModel → ℕ → Type 0
 HeldBelow z program n = (k : ℕ) → k < n → (d : RuleModel) → rule_holds z (slice_index_or program k d) ≡ true
 

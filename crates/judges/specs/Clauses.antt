@@ -1,20 +1,22 @@
 -- The printer's list as a judge.
-use Rattle.std.specs.Prelude.{◌≡◌, ℕ, ◌^◌, Bool, true, not, ◌||◌, List, nat_lt}
+use Rattle.std.specs.Prelude.{◌≡◌, ◌^◌, Bool, true, not, ◌||◌, List, nat_lt}
 use Rattle.sheets.specs.declared.literals.Literal.{Literal}
 use Rattle.std.specs.List.{list_all, list_any}
-use Rattle.sheets.specs.Sheets.{others, MarksBelow}
+use Rattle.sheets.specs.Sheets.{Sheet, Count, others, MarksBelow}
 use Rattle.sheets.specs.Literals.{held, holds}
 use Rattle.sheets.specs.Judging.{Judging}
 use Rattle.rulefile.specs.Model.{FileModel}
 
 -- each clause has a literal that holds
-abbrev pub kept : List (List Literal) → ℕ → Bool
+abbrev pub kept : List (List Literal) → Sheet → Bool
 kept clauses z = list_all (list_any (holds z)) clauses
 
--- a present mark is not below the count, or a clause has no literal that holds in any sheet within
-abbrev pub list_dead : ℕ → List (List Literal) → ℕ → ℕ → Bool
+-- by the present marks p and the absent marks a: a present mark is not below the count, or a clause has no literal that
+-- holds in any sheet within
+abbrev pub list_dead : Count → List (List Literal) → Sheet → Sheet → Bool
 list_dead count clauses p a = not (nat_lt p (2 ^ count)) || not (list_all (list_any (held (others a) p)) clauses)
 
+-- the printer's list of a file, as a judge
 abbrev pub list_of : FileModel → Judging
 list_of f = record {
   count = f.count;

@@ -1,4 +1,4 @@
--- The closure is one, it is found, and a verdict says one thing.
+-- Lemmas; no contract names what stands here. The closure is one, it is found, and a verdict says one thing.
 use Rattle.std.specs.Prelude.{◌≡◌, ℕ, zero, suc, ◌-◌, ◌<◌, Bool, true, false, cond, not, ◌||◌, List, [], ◌∷◌, length, Decides, ◌==◌, ◌≢◌, slice_index_or}
 use Rattle.std.proofs.Math.Path.{refl}
 use Rattle.std.proofs.Common.{ap, subst, ◌∙◌, ⊎_elim, arith}

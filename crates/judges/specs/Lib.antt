@@ -5,8 +5,8 @@ pub mod Verdicts
 pub mod Books
 pub mod Clauses
 pub mod Theorems
-pub mod Laws
+pub mod BookLaws
 pub mod Reached
 pub mod Grounds
 pub mod Breaks
-pub mod Kept
+pub mod ListLaws

@@ -1,4 +1,4 @@
--- The rounds, and the closure that they reach.
+-- Lemmas; no contract names what stands here. The rounds, and the closure that they reach.
 use Rattle.std.specs.Prelude.{◌≡◌, ℕ, ◌+◌, ◌-◌, ◌^◌, ◌<◌, ◌≤◌, Bool, true, false, cond, not, ◌&&◌, List, [], ◌∷◌, ◌++◌, map, filter, ◌≢◌, bit_or, nat_le, refl}
 use Rattle.std.proofs.Common.{sym, ap, subst, ◌∙◌, ⊎_elim, arith}
 use Rattle.std.specs.List.{AllByRecursion}
@@ -30,6 +30,7 @@ weigh_le p q h (e ∷ es) = omega (arith, leaf (p e.literal) (q e.literal) e.wei
 held_more : (s t z : ℕ) → Subset s t → (l : Literal) → held s z l ≡ true → held t z l ≡ true
 held_more s t z u = held_wider s t z z u (λ i e. e)
 
+-- the element of these three parts
 abbrev one : ℕ → Bool → ℕ → Element
 one m b w = record { literal = record { mark = m; negated = b }; weight = w }
 
@@ -90,12 +91,15 @@ supported_more z s t u (k ∷ ks) h =
     (supported_more z s t u ks a.1)
 
 -- ---- the Horn rules of one rule, read as one
+-- the element gives a head mark: it is plain, and holds in z
 abbrev picked : ℕ → Element → Bool
 picked z e = plain e.literal && holds z e.literal
 
+-- the set t has each head mark
 abbrev pub HeadsIn : ℕ → ℕ → List Element → Type 0
 HeadsIn z t es = AllByRecursion (λ e. picked z e ≡ true → has t e.literal.mark ≡ true) es
 
+-- the Horn rule of a head element, with the constraints ks as its body
 abbrev horn : ℕ → List ConstraintModel → Element → Horn
 horn z ks e = record { mark = e.literal.mark; body = map (lowered z) ks }
 

@@ -10,11 +10,12 @@ use rulefile::{RuleFile, read_or_head_alone};
 use sheets::{Sheet, within_count};
 use std::alloc::{AllocError, Global};
 
-// Why no verdict is given: it is refused, or memory is wanting. Nobody passes the allocation's error on from here, or
-// prints this. An enum of this crate's: the definitions say other things of its cases than of those of `ReadError`.
+// Why no verdict is given. No `Display`, and the allocation's error is dropped: nobody prints this or passes it on.
 #[derive(Clone, Copy, Debug, PartialEq, Eq)]
 pub enum VerdictError {
+    // A verdict is refused.
     Refused(Refusal),
+    // Memory is wanting.
     Memory,
 }
 

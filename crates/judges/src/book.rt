@@ -5,7 +5,7 @@ ghost use Rattle.rulefile.specs.Answers.{file_of};
 ghost use Rattle.rulefile.specs.Model.{rule_of};
 ghost use Rattle.judges.specs.Books.{lawful, book_of};
 ghost use Rattle.rulefile.proofs.Fits.{fit_parts};
-ghost use Rattle.judges.specs.Laws.{book_laws};
+ghost use Rattle.judges.specs.BookLaws.{book_laws};
 
 use crate::parts::has_dead_rule;
 use crate::verdicts::{Verdict, rules_verdict};
@@ -13,14 +13,16 @@ use rulefile::{Rule, RuleFile};
 use sheets::{Judge, PartSheet, Sheet};
 use std::rc::Rc;
 
-// Allows the lawful sheets of a file, which it shares with other judges and scales. It has one field in common with
-// `PrinterList`, and nothing of what it means.
+// Allows the lawful sheets of a file, which it shares with other judges and scales. It holds what `PrinterList` does, and
+// means another thing.
 #[derive(Drop)]
 pub struct Book {
+    // Its rules are the book.
     file: Rc<RuleFile>,
 }
 
 impl Book {
+    // The book of the file.
     pub fn new(file: Rc<RuleFile>) -> Book
         ensures { result.file ≡ file }
     {
@@ -28,6 +30,7 @@ impl Book {
     }
 }
 
+// The verdict on the sheet is that it is lawful.
 fn is_lawful(rules: &[Rule], sheet: Sheet) -> bool
     ensures { result ≡ lawful (map rule_of rules.now) sheet }
 {
@@ -37,7 +40,7 @@ fn is_lawful(rules: &[Rule], sheet: Sheet) -> bool
 impl Judge for Book {
     ghost judging = { λ b. book_of (file_of b.file.value) };
 
-    ghost lawful = { λ j. book_laws (file_of j.file.value) (fit_parts _ (rc_value j.file).fit) };
+    ghost keeps_laws = { λ j. book_laws (file_of j.file.value) (fit_parts _ (rc_value j.file).fit) };
 
     fn count(&self) -> u8 {
         self.file.count

@@ -7,7 +7,7 @@ ghost use Rattle.rulefile.specs.Answers.{file_of};
 ghost use Rattle.rulefile.specs.Model.{clause_of};
 ghost use Rattle.judges.specs.Clauses.{list_of};
 ghost use Rattle.rulefile.proofs.Fits.{fit_parts};
-ghost use Rattle.judges.specs.Kept.{list_laws};
+ghost use Rattle.judges.specs.ListLaws.{list_laws};
 
 use rulefile::{Clause, RuleFile};
 use sheets::{Interpretation, Judge, PartSheet, within_count};
@@ -16,10 +16,12 @@ use std::rc::Rc;
 // Allows the sheets of marks below the count in which each clause of a file has a literal that holds.
 #[derive(Drop)]
 pub struct PrinterList {
+    // Its clauses are the list.
     file: Rc<RuleFile>,
 }
 
 impl PrinterList {
+    // The printer's list of the file.
     pub fn new(file: Rc<RuleFile>) -> PrinterList
         ensures { result.file ≡ file }
     {
@@ -37,7 +39,7 @@ fn are_kept(clauses: &[Clause], by: Interpretation) -> bool
 impl Judge for PrinterList {
     ghost judging = { λ l. list_of (file_of l.file.value) };
 
-    ghost lawful = { λ j. list_laws (file_of j.file.value) (fit_parts _ (rc_value j.file).fit) };
+    ghost keeps_laws = { λ j. list_laws (file_of j.file.value) (fit_parts _ (rc_value j.file).fit) };
 
     fn count(&self) -> u8 {
         self.file.count

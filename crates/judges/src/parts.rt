@@ -1,5 +1,4 @@
-// What a part-sheet settles of the rules. Constraint and part-sheet stay two parameters: each function
-// on them is a sum or two tests, and no other needs a name for the pair.
+// What a part-sheet settles of the rules. Constraint and part-sheet are two parameters: nothing else needs the pair.
 ghost use Rattle.std.specs.Prelude.{◌≡◌, map};
 ghost use Rattle.rulefile.specs.Model.{constraint_of, rule_of};
 ghost use Rattle.std.specs.List.{list_all, list_any};
@@ -39,6 +38,7 @@ fn is_hopeless(constraint: &Constraint, part: PartSheet) -> bool
         || !is_at_most(least_sum(constraint, part), constraint.high)
 }
 
+// Each constraint of the body holds in every sheet within, by its sums.
 fn are_sure(body: &[Constraint], part: PartSheet) -> bool
     ensures { result ≡ list_all (sure part.present part.absent) (map constraint_of body.now) }
 {
@@ -52,6 +52,7 @@ fn is_dead_rule(rule: &Rule, part: PartSheet) -> bool
     is_hopeless(&rule.head, part) && are_sure(rule.body.as_slice(), part)
 }
 
+// A rule fails in every sheet within, by its sums.
 pub(crate) fn has_dead_rule(rules: &[Rule], part: PartSheet) -> bool
     ensures { result ≡ list_any (dead_rule part.present part.absent) (map rule_of rules.now) }
 {

@@ -29,12 +29,14 @@ pub(crate) fn sum(constraint: &Constraint, by: Interpretation) -> u32
     }
 }
 
+// The sum is not above the high bound, if there is one.
 pub(crate) fn is_at_most(total: u32, high: Option<u32>) -> bool
     ensures { result ≡ at_most total high }
 {
     high.is_none_or(|most| total <= most)
 }
 
+// The constraint holds in the sheet.
 pub(crate) fn is_satisfied(constraint: &Constraint, sheet: Sheet) -> bool
     ensures { result ≡ satisfied sheet (constraint_of constraint.now) }
 {

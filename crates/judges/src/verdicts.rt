@@ -1,5 +1,4 @@
-// Whether a sheet is lawful, and if not, why. Rules and sheet are two parameters, what is asked of and what is asked; where
-// they act as one they are a `Reduct`.
+// Whether a sheet is lawful, and if not, why. Rules and sheet are two parameters: what is asked of, and what is asked.
 ghost use Rattle.std.specs.Prelude.{◌≡◌, ◌<◌, map, MatchOption};
 ghost use Rattle.sheets.specs.Sheets.{Subset};
 ghost use Rattle.rulefile.specs.Model.{rule_of};
@@ -66,6 +65,7 @@ fn first_missing(sheet: Sheet, other: Sheet) -> Option<Mark>
     (0..WIDTH).find(|mark| has_mark(sheet, *mark) && !has_mark(other, *mark))
 }
 
+// What is said of the sheet by the rules.
 pub(crate) fn rules_verdict(rules: &[Rule], sheet: Sheet) -> Verdict
     ensures { Says (map rule_of rules.now) sheet result }
 {

@@ -43,7 +43,7 @@ impl<J: Judge> Acts<J> {
 impl<J: Judge> Judge for Acts<J> {
     ghost judging = { held_to J.Judge.judging };
 
-    ghost lawful = { λ a. under_laws (J.Judge.judging a.judge) (acts_of a) a.docket.ranges (J.Judge.lawful a.judge) };
+    ghost keeps_laws = { λ a. under_laws (J.Judge.judging a.judge) (acts_of a) a.docket.ranges (J.Judge.keeps_laws a.judge) };
 
     // The count of the judge below.
     fn count(&self) -> u8 {

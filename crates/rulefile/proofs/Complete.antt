@@ -1,5 +1,5 @@
 -- A sequence of records that keeps the laws is accepted.
-use Rattle.std.proofs.Common.{◌≡◌, ℕ, ◌+◌, ◌-◌, ◌<◌, ◌≤◌, leb, List, [], ◌∷◌, ◌++◌, map, length, take, drop, IfOk, Ok, Err, Result, sym, refl, ap, ◌∙◌, append_assoc, arith, length-append}
+use Rattle.std.proofs.Common.{◌≡◌, ℕ, ◌+◌, ◌-◌, ◌<◌, ◌≤◌, leb, List, [], ◌∷◌, ◌++◌, map, length, take, drop, IfOk, Ok, Err, Result, sym, refl, ap, subst, ◌∙◌, append_assoc, arith, length-append}
 use Rattle.std.specs.List.{flat_map, AllByRecursion}
 use Rattle.std.proofs.lemmas.List.{length-map, take_at, drop_at}
 use Rattle.std.proofs.lemmas.Bool.{le-leb, lt-ltb, and_from}
@@ -13,7 +13,7 @@ use Rattle.rulefile.specs.Model.{FileModel}
 use Rattle.rulefile.specs.Parser.{Parse, took, little}
 use Rattle.rulefile.specs.Format.{head_body, rule_body, clause_body, wish_body, act_body, kind_of, room_at, head_alone, with_rule, with_clause, with_wish, with_act, first_body, later_body, first, later, cut, records, decode}
 use Rattle.rulefile.specs.Answers.{file_of, Reads}
-use Rattle.rulefile.specs.Reading.{Takes, Reading}
+use Rattle.rulefile.specs.Reading.{Reading}
 use Rattle.rulefile.specs.Laws.{RecordBytes, bytes_of, Framed, bodies_of, Fits, Accepted}
 use Rattle.rulefile.proofs.Frames.{cut_made}
 use Rattle.rulefile.proofs.Drafts.{adding_made, whole_cut, decode_first, records_more}
@@ -229,14 +229,9 @@ complete bs f a =
 -- ---- what the reader promises follows from the meaning of its answer
 
 pub reading : (bs : List ℕ) (r : Result RuleFile ReadError) → Reads (decode bs) r → Reading bs r
-reading bs r e = record { meaning = e; laws = laws r e; complete = λ f a. taken r e f (complete bs f a) }
+reading bs r e = record { meaning = e; laws = laws r e; complete = λ f a. subst (λ d. Reads d r) (complete bs f a) e }
   where
     laws : (r : Result RuleFile ReadError) → Reads (decode bs) r → IfOk r (λ f. Accepted bs (file_of f))
     laws (Ok g) e = accepted bs (file_of g) e
     laws (Err (Refused b)) e = tt
     laws (Err (Memory m)) e = tt
-
-    taken : (r : Result RuleFile ReadError) → Reads (decode bs) r → (f : FileModel) → decode bs ≡ Ok f → Takes f r
-    taken (Ok g) e f h = cc
-    taken (Err (Refused b)) e f h = cc
-    taken (Err (Memory m)) e f h = tt

@@ -1,6 +1,6 @@
 -- The meaning of a rule file.
 use Rattle.std.specs.Prelude.{ℕ, zero, suc, ◌-◌, ◌%◌, ◌^◌, cond, ◌&&◌, List, [], ◌∷◌, ◌++◌, length, take, drop, ℤ, pos, negsuc, Some, None, Ok, Err, Option, Result, ◌==◌, nat_le, nat_lt}
-use Rattle.sheets.specs.Sheets.{width}
+use Rattle.sheets.specs.Sheets.{Sheet, Count, width}
 use Rattle.sheets.specs.declared.literals.Literal.{Literal}
 use Rattle.rulefile.specs.declared.refusals.Refusal.{Refusal}
 use Rattle.rulefile.specs.declared.refusals.Refusal.TheVariants.{FileTooLong, RecordCut, LengthRange, LengthPastEnd, UnknownKind, HeadMisplaced, TooManyOfKind, OutOfRange, MarkRange}
@@ -10,20 +10,21 @@ use Rattle.rulefile.specs.declared.records.Act.{Act}
 use Rattle.rulefile.specs.declared.records.Act.TheVariants.{Pin, Bar, Strike, Undo}
 use Rattle.rulefile.specs.declared.records.Kind.{Kind}
 use Rattle.rulefile.specs.declared.records.Kind.TheVariants.{Head, Rule, Clause, Wish, Act as ActKind}
-use Rattle.rulefile.specs.Ranges.{is_weight}
+use Rattle.rulefile.specs.Ranges.{most_bytes, most_length, most_of_kind, is_weight}
 use Rattle.rulefile.specs.Model.{ConstraintModel, RuleModel, WishModel, FileModel}
 use Rattle.rulefile.specs.Parser.{Parse, took, fails, Parser, after, ◌>>=◌, ◌>>◌, pure, refuse, check, parsed, bytes, little, field, within, times, wholly}
 
 -- ---- fields
 
--- an element byte: the mark in its low seven bits, and 128 is added for "not"
-unfoldable pub literal : ℕ → Parser Literal
+-- a literal byte: the mark in its low seven bits, and 128 is added for "not"
+unfoldable pub literal : Count → Parser Literal
 literal count = do
   b ← field 1
   check (nat_lt (b % 128) count) MarkRange
   pure (record { mark = b % 128; negated = nat_le 128 b })
 
-unfoldable pub element : ℕ → Parser Element
+-- a literal byte, and two bytes for its weight
+unfoldable pub element : Count → Parser Element
 element count = do
   l ← literal count
   w ← field 2
@@ -33,7 +34,8 @@ element count = do
 abbrev pub high_of : ℕ → Option ℕ
 high_of n = cond (n == 4294967295) None (Some n)
 
-unfoldable pub constraint : ℕ → Parser ConstraintModel
+-- the low bound, the high bound, the number of elements, the elements
+unfoldable pub constraint : Count → Parser ConstraintModel
 constraint count = do
   low ← field 4
   high ← field 4
@@ -45,50 +47,54 @@ constraint count = do
 abbrev pub signed : ℕ → ℤ
 signed n = cond (nat_lt n 32768) (pos n) (negsuc (65535 - n))
 
+-- a field of two bytes, read so
 unfoldable pub signed_field : Parser ℤ
 signed_field = do
   n ← field 2
   pure (signed n)
 
 -- eight bytes, bit i for mark i
-abbrev pub sheet_field : Parser ℕ
+abbrev pub sheet_field : Parser Sheet
 sheet_field = field 8
 
 -- ---- bodies, by kind: the fields in their order, and no byte after them
 
 -- kind 1: the count of marks, and the house sheet
-unfoldable pub head_fields : Parser (ℕ × ℕ)
+unfoldable pub head_fields : Parser (Count × Sheet)
 head_fields = do
   count ← within 1 width
   house ← sheet_field
   check (nat_lt house (2 ^ count)) MarkRange
   pure (count, house)
 
-unfoldable pub head_body : Parser (ℕ × ℕ)
+-- the same, to the last byte of the body
+unfoldable pub head_body : Parser (Count × Sheet)
 head_body = wholly head_fields
 
 -- kind 2: the number of body constraints, the head constraint, the body constraints
-unfoldable pub rule_fields : ℕ → Parser RuleModel
+unfoldable pub rule_fields : Count → Parser RuleModel
 rule_fields count = do
   n ← within 0 8
   h ← constraint count
   ks ← times n (constraint count)
   pure (record { head = h; body = ks })
 
-unfoldable pub rule_body : ℕ → Parser RuleModel
+-- the same, to the last byte of the body
+unfoldable pub rule_body : Count → Parser RuleModel
 rule_body count = wholly (rule_fields count)
 
--- kind 3: the number of elements, the elements
-unfoldable pub clause_fields : ℕ → Parser (List Literal)
+-- kind 3: the number of literals, the literals
+unfoldable pub clause_fields : Count → Parser (List Literal)
 clause_fields count = do
   n ← within 0 32
   times n (literal count)
 
-unfoldable pub clause_body : ℕ → Parser (List Literal)
+-- the same, to the last byte of the body
+unfoldable pub clause_body : Count → Parser (List Literal)
 clause_body count = wholly (clause_fields count)
 
--- kind 4: level, weight, the number of elements, the elements
-unfoldable pub wish_fields : ℕ → Parser WishModel
+-- kind 4: level, weight, the number of literals, the literals
+unfoldable pub wish_fields : Count → Parser WishModel
 wish_fields count = do
   level ← within 1 8
   w ← signed_field
@@ -97,7 +103,8 @@ wish_fields count = do
   ls ← times n (literal count)
   pure (record { level = level; weight = w; literals = ls })
 
-unfoldable pub wish_body : ℕ → Parser WishModel
+-- the same, to the last byte of the body
+unfoldable pub wish_body : Count → Parser WishModel
 wish_body count = wholly (wish_fields count)
 
 -- an act by its code, from 1 to 4
@@ -112,6 +119,7 @@ act_of code =
 unfoldable pub act_fields : Parser Act
 act_fields = within 1 4 >>= act_of
 
+-- the same, to the last byte of the body
 unfoldable pub act_body : Parser Act
 act_body = wholly act_fields
 
@@ -121,10 +129,11 @@ act_body = wholly act_fields
 unfoldable pub cut : Parser (ℕ × List ℕ)
 cut = do
   size ← bytes 4 RecordCut
-  check (nat_le 2 (little size) && nat_le (little size) 1024) LengthRange
+  check (nat_le 2 (little size) && nat_le (little size) most_length) LengthRange
   block ← bytes (little size) LengthPastEnd
   pure (little (take 2 block), drop 2 block)
 
+-- the kind of a number, from 1 to 5
 abbrev pub kind_of : ℕ → Result Kind Refusal
 kind_of n =
     cond (n == 1) (Ok Head)
@@ -134,9 +143,9 @@ kind_of n =
     (cond (n == 5) (Ok ActKind)
     (Err UnknownKind)))))
 
--- where n of a kind are read, one more may be: at most 256
+-- where n of a kind are read, one more may be, up to `most_of_kind`
 abbrev pub room_at : ℕ → Result (Unit {0}) Refusal
-room_at n = cond (nat_lt n 256) (Ok tt) (Err TooManyOfKind)
+room_at n = cond (nat_lt n most_of_kind) (Ok tt) (Err TooManyOfKind)
 
 -- one more of a kind of which n are read: its body is read, and put into the file
 abbrev pub adding : {A : Type 0} → ℕ → Parser A → (A → FileModel) → Parser FileModel
@@ -146,7 +155,7 @@ adding n p put = do
   pure (put x)
 
 -- a file with nothing but its head
-abbrev pub head_alone : ℕ × ℕ → FileModel
+abbrev pub head_alone : Count × Sheet → FileModel
 head_alone h = record { count = h.0; house = h.1; rules = []; clauses = []; wishes = []; acts = []; order = [] }
 
 -- the file with one more of a kind, behind those that it has
@@ -180,13 +189,16 @@ later_body f Clause = adding (length f.clauses) (clause_body f.count) (with_clau
 later_body f Wish = adding (length f.wishes) (wish_body f.count) (with_wish f)
 later_body f ActKind = adding (length f.acts) act_body (with_act f)
 
+-- the first record, by the number of its kind
 unfoldable pub first : ℕ → Parser FileModel
 first n = parsed (kind_of n) >>= first_body
 
+-- a later record, by the number of its kind
 unfoldable pub later : FileModel → ℕ → Parser FileModel
 later f n = parsed (kind_of n) >>= later_body f
 
--- one record: cut off, and its body read by itself
+-- one record: cut off, and its body read by itself. What p leaves of the body is not looked at, since each body is read
+-- to its end (`wholly`).
 abbrev pub whole : (ℕ → Parser FileModel) → Parser FileModel
 whole p = cut >>= λ r rest. after (p r.0 r.1) (λ f _. took f rest)
 
@@ -196,12 +208,13 @@ whole p = cut >>= λ r rest. after (p r.0 r.1) (λ f _. took f rest)
 abbrev pub bad : Refusal → ℕ → Result FileModel BadFile
 bad cause offset = Err (record { why = cause; at = offset })
 
+-- what was taken goes on to `go` with the bytes that are left; a refusal is the file's, at the offset
 abbrev pub or_refused : ℕ → Parse FileModel → (FileModel → List ℕ → Result FileModel BadFile) → Result FileModel BadFile
 or_refused offset (took f rest) go = go f rest
 or_refused offset (fails cause) go = bad cause offset
 
 -- The records from a place on. `size` is the length of the file, and n is at least the number of records that are left:
--- each takes a byte or more, so the number of bytes serves.
+-- each takes a byte or more, so the number of bytes serves. The second line below is never reached.
 unfoldable pub records : ℕ → ℕ → FileModel → List ℕ → Result FileModel BadFile
 records n size f [] = Ok f
 records zero size f (b ∷ bs) = bad RecordCut (size - length (b ∷ bs))
@@ -210,7 +223,7 @@ records (suc n) size f (b ∷ bs) = or_refused (size - length (b ∷ bs)) (whole
 -- The meaning of a file: what it holds, or why it is refused and where.
 unfoldable pub decode : List ℕ → Result FileModel BadFile
 decode bs =
-    cond (nat_lt 32768 (length bs)) (bad FileTooLong 0)
+    cond (nat_lt most_bytes (length bs)) (bad FileTooLong 0)
     (or_refused 0 (whole first bs) (records (length bs) (length bs)))
 
 -- What judges and scales take for a file: a refused one stands for a head alone with count 1 and an empty house sheet.

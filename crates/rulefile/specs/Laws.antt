@@ -1,9 +1,10 @@
 -- What every accepted file keeps, in the words of the format.
 use Rattle.std.specs.Prelude.{◌≡◌, ℕ, ◌+◌, ◌^◌, ◌<◌, ◌≤◌, cond, List, [], ◌∷◌, ◌++◌, map, length, Ok, ◌==◌, ◌≢◌}
 use Rattle.std.specs.List.{flat_map, AllByRecursion}
-use Rattle.sheets.specs.Sheets.{width, MarksBelow}
+use Rattle.sheets.specs.Sheets.{Count, width, MarksBelow}
 use Rattle.sheets.specs.declared.literals.Literal.{Literal}
 use Rattle.rulefile.specs.declared.constraints.Element.{Element}
+use Rattle.rulefile.specs.Ranges.{most_bytes, most_length, most_of_kind}
 use Rattle.rulefile.specs.Model.{ConstraintModel, RuleModel, WishModel, FileModel}
 use Rattle.rulefile.specs.Parser.{Parser, took, little}
 use Rattle.rulefile.specs.Format.{head_body, rule_body, clause_body, wish_body, act_body, kind_of}
@@ -14,15 +15,16 @@ pub record RecordBytes : Type 0 where
   pub kind : List ℕ
   pub body : List ℕ
 
+-- its bytes in the file
 abbrev pub bytes_of : RecordBytes → List ℕ
 bytes_of r = r.size ++ (r.kind ++ r.body)
 
--- four length bytes and two kind bytes; the length counts kind and body, and is at most 1,024
+-- four length bytes and two kind bytes; the length counts kind and body, and is at most `most_length`
 pub record Framed (r : RecordBytes) : Type 0 where
   pub four : length r.size ≡ 4
   pub two : length r.kind ≡ 2
   pub counts : little r.size ≡ length r.kind + length r.body
-  pub most : little r.size ≤ 1024
+  pub most : little r.size ≤ most_length
 
 -- the lengths of records, each with the four bytes that say it
 abbrev pub lengths : List RecordBytes → ℕ
@@ -34,21 +36,24 @@ abbrev pub bodies_of : ℕ → List RecordBytes → List (List ℕ)
 bodies_of k [] = []
 bodies_of k (r ∷ rs) = cond (little r.kind == k) (r.body ∷ bodies_of k rs) (bodies_of k rs)
 
--- each body is one of xs to the parser, to its last byte, in the same order
+-- there are as many bodies as xs, and the parser reads the n-th body, to its last byte, as the n-th of xs
 abbrev pub Say : {A : Type 0} → Parser A → List (List ℕ) → List A → Type 0
 Say p bodies xs = map p bodies ≡ map (λ x. took x []) xs
 
 -- every mark is below n
-abbrev pub LiteralsBelow : ℕ → List Literal → Type 0
+abbrev pub LiteralsBelow : Count → List Literal → Type 0
 LiteralsBelow n = AllByRecursion (λ (l : Literal). l.mark < n)
 
-abbrev pub ConstraintBelow : ℕ → ConstraintModel → Type 0
+-- every mark of an element is below n
+abbrev pub ConstraintBelow : Count → ConstraintModel → Type 0
 ConstraintBelow n k = AllByRecursion (λ (e : Element). e.literal.mark < n) k.elements
 
-abbrev pub RuleBelow : ℕ → RuleModel → Type 0
+-- every mark of the head and of the body is below n
+abbrev pub RuleBelow : Count → RuleModel → Type 0
 RuleBelow n r = ConstraintBelow n r.head × AllByRecursion (ConstraintBelow n) r.body
 
--- the limits of a file: the count is from 1 to the width, the house sheet and each element have only marks below it, and there are at most 256 of a kind
+-- the limits of a file: the count is from 1 to the width, the marks of the house sheet, of rules, clauses and wishes are
+-- below it, and there are at most `most_of_kind` of a kind; of the marks of acts nothing is said
 pub record Fits (f : FileModel) : Type 0 where
   pub some : 1 ≤ f.count
   pub few : f.count ≤ width
@@ -56,10 +61,10 @@ pub record Fits (f : FileModel) : Type 0 where
   pub rules : AllByRecursion (RuleBelow f.count) f.rules
   pub clauses : AllByRecursion (LiteralsBelow f.count) f.clauses
   pub wishes : AllByRecursion (λ (w : WishModel). LiteralsBelow f.count w.literals) f.wishes
-  pub few_rules : length f.rules ≤ 256
-  pub few_clauses : length f.clauses ≤ 256
-  pub few_wishes : length f.wishes ≤ 256
-  pub few_acts : length f.acts ≤ 256
+  pub few_rules : length f.rules ≤ most_of_kind
+  pub few_clauses : length f.clauses ≤ most_of_kind
+  pub few_wishes : length f.wishes ≤ most_of_kind
+  pub few_acts : length f.acts ≤ most_of_kind
 
 -- the bytes are a file that holds f
 pub record Accepted (bytes : List ℕ) (f : FileModel) : Type 0 where
@@ -69,7 +74,7 @@ pub record Accepted (bytes : List ℕ) (f : FileModel) : Type 0 where
   pub sequence : bytes ≡ flat_map bytes_of (head ∷ later)
   pub framed : AllByRecursion Framed (head ∷ later)
   pub adds_up : length bytes ≡ lengths (head ∷ later)
-  pub short : length bytes ≤ 32768
+  pub short : length bytes ≤ most_bytes
   -- the first record is the head, and no other is
   pub first : little head.kind ≡ 1
   pub only : AllByRecursion (λ r. little r.kind ≢ 1) later

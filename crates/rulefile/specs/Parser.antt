@@ -8,6 +8,7 @@ pub data Parse (A : Type 0) : Type 0 where
   took : A → List ℕ → Parse A
   fails : Refusal → Parse A
 
+-- what reads an A from the front of a list of bytes
 abbrev pub Parser : Type 0 → Type 0
 Parser A = List ℕ → Parse A
 
@@ -17,9 +18,11 @@ after (took x rest) f = f x rest
 after (fails why) f = fails why
 
 infixl 10 ◌>>=◌ ◌>>◌
+-- first p, and then what f says of the value that p took
 abbrev pub ◌>>=◌ : {A B : Type 0} → Parser A → (A → Parser B) → Parser B
 ◌>>=◌ p f bs = after (p bs) f
 
+-- first p, and then q; what p took is dropped
 abbrev pub ◌>>◌ : {A B : Type 0} → Parser A → Parser B → Parser B
 ◌>>◌ p q bs = after (p bs) (λ _. q)
 
@@ -27,6 +30,7 @@ abbrev pub ◌>>◌ : {A B : Type 0} → Parser A → Parser B → Parser B
 abbrev pub pure : {A : Type 0} → A → Parser A
 pure x bs = took x bs
 
+-- refuses whatever the bytes are
 abbrev pub refuse : {A : Type 0} → Refusal → Parser A
 refuse why bs = fails why
 

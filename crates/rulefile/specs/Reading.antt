@@ -1,26 +1,20 @@
 -- What the reader promises.
-use Rattle.std.specs.Prelude.{◌≡◌, ℕ, ◌≤◌, List, take, IfOk, Ok, Err, Result}
+use Rattle.std.specs.Prelude.{◌≡◌, ℕ, ◌≤◌, List, take, IfOk, Ok, Result}
 use Rattle.rulefile.specs.declared.refusals.ReadError.{ReadError}
-use Rattle.rulefile.specs.declared.refusals.ReadError.TheVariants.{Refused, Memory}
 use Rattle.rulefile.specs.declared.files.RuleFile.{RuleFile}
 use Rattle.rulefile.specs.Model.{FileModel}
 use Rattle.rulefile.specs.Format.{decode}
 use Rattle.rulefile.specs.Answers.{file_of, Reads}
 use Rattle.rulefile.specs.Laws.{Accepted}
 
--- the answer to a file that holds f: it holds f, unless memory failed
-abbrev pub Takes : FileModel → Result RuleFile ReadError → Type 0
-Takes f (Ok g) = f ≡ file_of g
-Takes f (Err (Refused b)) = ⊥
-Takes f (Err (Memory e)) = Unit {0}
-
+-- what holds of the reader's answer r to a file of these bytes
 pub record Reading (bytes : List ℕ) (r : Result RuleFile ReadError) : Type 0 where
   -- the answer is what the bytes mean: the file, or the refusal and its offset
   pub meaning : Reads (decode bytes) r
   -- a file is accepted only where it keeps the laws of the format
   pub laws : IfOk r (λ f. Accepted bytes (file_of f))
-  -- and no file that keeps them is refused
-  pub complete : (f : FileModel) → Accepted bytes f → Takes f r
+  -- and no file that keeps them is refused: one that holds f is read as f
+  pub complete : (f : FileModel) → Accepted bytes f → Reads (Ok f) r
 
 -- the first n bytes mean what the whole does, however long that is
 abbrev pub Enough : ℕ → Type 0

@@ -27,6 +27,7 @@ pub struct Body<'a> {
     pub heap: Global,
     pub count: u8,
     pub rest: &'a [u8],
+    // The count is at most the number of marks.
     ghost few: { count ≤ width },
 }
 

@@ -13,16 +13,19 @@ pub struct Element {
     pub weight: u16,
 }
 
-// Holds where the weights of the elements that hold add up to `low` at least and to `high` at most; no `high` is no
-// bound.
+// Holds where the weights of the elements that hold add up to `low` at least and to `high` at most.
 #[derive(Drop)]
 pub struct Constraint {
+    // The low bound.
     pub low: u32,
+    // The high bound, if there is one.
     pub high: Option<u32>,
     pub elements: Vec<Element>,
     // The elements again, where they weigh the same.
     pub(crate) uniform: Option<Uniform>,
+    // A constraint has at most 32 elements.
     ghost few: { vec_len elements ≤ 32 },
+    // What `uniform` has is what `elements` has.
     ghost alike: { (u : Uniform) → uniform ≡ Some u → AreUniform (vec_items elements) u },
 }
 

@@ -7,17 +7,23 @@ use crate::records::{Act, Clause, Kind, Rule};
 use crate::wishes::Wish;
 use sheets::Sheet;
 
-// The count of marks, the house sheet, and what the later records say, in file order; `order` has their kinds. Four lists
-// and not one of all kinds: each judge and scale goes through one of them. Neither files nor what they hold in lists are
-// compared or printed by anybody, so these types derive nothing for it: to prove it took a quarter of this crate's check.
+// What a file holds. Four lists and not one of all kinds: each judge and scale goes through one of them. What nobody
+// compares or prints derives nothing for it, here and in the lists, since that would have to be proved too.
 #[derive(Drop)]
 pub struct RuleFile {
+    // How many marks there are.
     pub count: u8,
+    // The sheet from which `Distance` counts.
     pub house: Sheet,
+    // In file order, as the other lists; a rule's number is its place here.
     pub rules: Vec<Rule>,
+    // The printer's list.
     pub clauses: Vec<Clause>,
     pub wishes: Vec<Wish>,
+    // The calls with which an order begins.
     pub acts: Vec<Act>,
+    // The kinds of all records after the head.
     pub order: Vec<Kind>,
+    // The limits of a file.
     ghost fit: { is_fit (model_of count house rules.items clauses.items wishes.items acts.items order.items) ≡ true },
 }

@@ -1,5 +1,6 @@
 // One record, cut off the bytes of a file.
 ghost use Rattle.std.specs.Prelude.{◌≡◌, ◌<◌, ◌&&◌, length, Err, nat_le};
+ghost use Rattle.rulefile.specs.Ranges.{most_length};
 ghost use Rattle.rulefile.specs.Format.{cut as cut_spec};
 ghost use Rattle.rulefile.specs.Answers.{parsed_record, Shorter};
 
@@ -13,8 +14,9 @@ pub struct Record<'a> {
     pub after: &'a [u8],
 }
 
+// A record can say this length.
 fn length_fits(n: u32) -> bool
-    ensures { result ≡ (nat_le 2 n && nat_le n 1024) }
+    ensures { result ≡ (nat_le 2 n && nat_le n most_length) }
 {
     (2..=1024).contains(&n)
 }

@@ -14,8 +14,10 @@ use crate::records::{Head, Kind};
 use crate::refusals::{Fault, ReadError, Refusal};
 use std::alloc::{AllocError, Global};
 
+// How many bytes a file can have.
 const MOST_BYTES: usize = 32_768;
 
+// How many records of one kind a file can have.
 const MOST_OF_KIND: usize = 256;
 
 // Whether one more of a kind may be read, where `n` are.

@@ -12,10 +12,15 @@ use sheets::{Interpretation, Literal, LiteralSet, Mark, Sheet};
 // What a record is.
 #[derive(Clone, Copy, Debug, PartialEq, Eq)]
 pub enum Kind {
+    // The count of marks and the house sheet.
     Head,
+    // A rule of the book.
     Rule,
+    // A clause of the printer's list.
     Clause,
+    // A wish of the shop.
     Wish,
+    // A call on the acts of an order.
     Act,
 }
 
@@ -42,8 +47,11 @@ impl TryFrom<u16> for Kind {
 // The count of marks, and the house sheet.
 #[derive(Clone, Copy, Debug, PartialEq, Eq)]
 pub struct Head {
+    // From 1 to `WIDTH`.
     pub count: u8,
+    // Of marks below the count.
     pub house: Sheet,
+    // The count is at most the number of marks.
     ghost few: { count ≤ width },
 }
 
@@ -52,16 +60,19 @@ pub struct Head {
 pub struct Rule {
     pub head: Constraint,
     pub body: Vec<Constraint>,
+    // A rule has at most 8 body constraints.
     ghost few: { vec_len body ≤ 8 },
 }
 
-// One of the literals holds.
+// At least one of the literals holds.
 #[derive(Drop)]
 pub struct Clause {
     pub literals: Vec<Literal>,
     // The literals again.
     pub(crate) set: LiteralSet,
+    // A clause has at most 32 literals.
     ghost few: { vec_len literals ≤ 32 },
+    // The set stands for the literals.
     ghost same: { Stands set.plain set.nots (vec_items literals) },
 }
 
@@ -77,8 +88,12 @@ impl Clause {
 // A call on a marking order. Its marks are tested when it is called, not when it is read.
 #[derive(Clone, Copy, Debug, PartialEq, Eq)]
 pub enum Act {
+    // The sheet shall have the mark.
     Pin(Mark),
+    // It shall lack the mark.
     Bar(Mark),
+    // It shall not be this sheet.
     Strike(Sheet),
+    // The last act shall be taken off.
     Undo,
 }

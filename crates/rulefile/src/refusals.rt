@@ -30,7 +30,7 @@ pub enum Refusal {
     BodyLength = 17,
     // A number is outside its range.
     OutOfRange = 18,
-    // A mark of an element or of the house sheet is not below the count.
+    // A mark of a rule, a clause, a wish or the house sheet is not below the count.
     MarkRange = 19,
 }
 
@@ -67,10 +67,12 @@ impl fmt::Display for Refusal {
 
 impl Error for Refusal {}
 
-// A refused file: why, and the offset of the first byte of the record concerned.
+// A refused file: why, and where the record concerned begins.
 #[derive(Clone, Copy, Debug, PartialEq, Eq)]
 pub struct BadFile {
+    // Why the file is refused.
     pub why: Refusal,
+    // The offset of its first byte; 0 where the file is too long.
     pub at: u32,
 }
 
@@ -84,11 +86,12 @@ impl fmt::Display for BadFile {
 
 impl Error for BadFile {}
 
-// Why a file was not read: it is refused, or memory is wanting. An enum of this crate's, as for each crate that has such an
-// error: each prints words of its own, and the definitions say other things of its cases.
+// Why a file was not read. An enum of this crate's, as in each crate with such an error: each prints words of its own.
 #[derive(Clone, Copy, Debug, PartialEq, Eq)]
 pub enum ReadError {
+    // The file is refused.
     Refused(BadFile),
+    // Memory is wanting.
     Memory(AllocError),
 }
 
@@ -108,17 +111,20 @@ impl Error for ReadError {}
 // Why a part of a file was not read, before the offset is known.
 #[derive(Clone, Copy, Debug, PartialEq, Eq)]
 pub enum Fault {
+    // The file is refused.
     Bad(Refusal),
+    // Memory is wanting.
     Memory(AllocError),
 }
 
 impl Fault {
     ghost use Rattle.std.specs.Prelude.{◌≤◌};
+    ghost use Rattle.rulefile.specs.Ranges.{most_bytes};
     ghost use Rattle.rulefile.specs.Answers.{located_at};
 
     // The fault of the record at an offset, as the reader answers it.
     pub(crate) fn located(self, at: usize) -> ReadError
-        requires { at ≤ 32768 }
+        requires { at ≤ most_bytes }
         ensures { result ≡ located_at self at }
     {
         match self {

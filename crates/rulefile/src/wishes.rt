@@ -15,11 +15,15 @@ pub struct Wish {
     pub literals: Vec<Literal>,
     // The literals again.
     pub(crate) set: LiteralSet,
+    // The level is from 1 to 8.
     ghost low: { 1 ≤ level },
     ghost high: { level ≤ 8 },
+    // The weight is in its range.
     ghost weighed: { is_weight weight ≡ true },
+    // A wish has 1 to 16 literals.
     ghost some: { 1 ≤ vec_len literals },
     ghost few: { vec_len literals ≤ 16 },
+    // The set stands for the literals.
     ghost same: { Stands set.plain set.nots (vec_items literals) },
 }
 

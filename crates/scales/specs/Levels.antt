@@ -1,6 +1,7 @@
 -- Levels as a scale.
-use Rattle.std.specs.Prelude.{ℕ, Bool, List}
+use Rattle.std.specs.Prelude.{Bool, List}
 use Rattle.std.specs.Rc.{rc_value}
+use Rattle.sheets.specs.Sheets.{Sheet}
 use Rattle.sheets.specs.Scaling.{Scaling}
 use Rattle.rulefile.specs.Answers.{file_of}
 use Rattle.rulefile.specs.Model.{WishModel}
@@ -21,5 +22,5 @@ levels_of ws = record {
 }
 
 -- the cost of the sheet x is below that of the sheet y
-abbrev pub cheaper : List WishModel → ℕ → ℕ → Bool
+abbrev pub cheaper : List WishModel → Sheet → Sheet → Bool
 cheaper ws x y = (levels_of ws).below ((levels_of ws).cost x) ((levels_of ws).cost y)

@@ -1,4 +1,4 @@
--- Costs compared from the top level down.
+-- Lemmas; no contract names what stands here. Costs compared from the top level down.
 use Rattle.std.specs.Prelude.{◌≡◌, ℕ, zero, suc, ◌-◌, ◌<◌, ◌≤◌, Bool, true, false, ◌⊎◌, List, [], ◌∷◌, get_or, ℤ, pos, ◌≤ℤ◌, ◌<ℤ◌, Some, int_lt, slice_index_or, refl}
 use Rattle.std.specs.declared.cmp.Ordering.TheVariants.{Less, Equal, Greater}
 use Rattle.std.specs.declared.cmp.Ordering.{Ordering}
@@ -57,10 +57,6 @@ less_transitive (x ∷ xs) (y ∷ ys) (z ∷ zs) t u =
 pub less_order : OrderLaws first_less
 less_order = order_from first_less less_some less_itself less_transitive
 
--- not both below and above
-pub less_turned : (a b : List ℤ) → first_less a b ≡ true → first_less b a ≡ false
-less_turned = less_order.asymmetric
-
 -- ---- from a level down to 1
 
 pub down_above : (n : ℕ) (g h : ℕ → ℤ) → ((m : ℕ) → g m ≤ℤ h m) → first_less (down_from n h) (down_from n g) ≡ false
@@ -81,13 +77,15 @@ down_at (suc n) m g low high = ⊎_elim
 
 -- ---- the greatest level at which two costs differ
 
+-- g and h are what two sheets cost at each level
 module _ (g h : ℕ → ℤ) where
+  -- at this level g is less, and at every greater one they are equal
   pub record Decided : Type 0 where
     pub level : ℕ
     pub less : g level <ℤ h level
     pub same : (m : ℕ) → level < m → g m ≡ h m
 
-  -- where they do not differ above level n
+  -- there is such a level where the list of g from level n down is less, and they do not differ above n
   pub decided : (n : ℕ) → ((m : ℕ) → n < m → g m ≡ h m) → first_less (down_from n g) (down_from n h) ≡ true → Decided
   decided zero above t = absurd (both_ways false refl t)
   decided (suc n) above t = ⊎_elim
@@ -95,6 +93,7 @@ module _ (g h : ℕ → ℤ) where
       (λ e. decided n (λ m lt. ⊎_elim (λ q. subst (λ (k : ℕ). g k ≡ h k) (sym q) e.0) (λ ne. above m (omega arith)) (cases_eq m (suc n))) e.1)
       (ways int_lt signed_order (g (suc n)) (h (suc n)) (first_less (down_from n g) (down_from n h)) t)
 
+  -- and where such a level is one of 1 to n, that list is less
   pub decided_less : (n : ℕ) (d : Decided) → 1 ≤ d.level → d.level ≤ n → first_less (down_from n g) (down_from n h) ≡ true
   decided_less zero d low high = absurd (omega arith)
   decided_less (suc n) d low high = ⊎_elim

@@ -1,5 +1,6 @@
--- What wishes cost: floors, the sums of a level, the laws of levels, and domination.
-use Rattle.std.specs.Prelude.{◌≡◌, ℕ, ◌-◌, ◌<◌, ◌≤◌, Bool, true, false, cond, ◌&&◌, List, [], ◌∷◌, map, ℤ, pos, ◌+ℤ◌, ◌≤ℤ◌, Decides, ◌==◌, nat_eq, nat_le, slice_index_or, refl}
+-- Lemmas; no contract names what stands here. What wishes cost: floors, the sums of a level, the
+-- laws of levels, and domination.
+use Rattle.std.specs.Prelude.{◌≡◌, ℕ, ◌-◌, ◌<◌, ◌≤◌, Bool, true, false, cond, ◌&&◌, List, [], ◌∷◌, map, ℤ, pos, ◌+ℤ◌, ◌≤ℤ◌, Decides, ◌==◌, nat_le, slice_index_or, refl}
 use Rattle.std.proofs.Common.{sym, ap, ap₂, ◌∙◌, inl, inr, ⊎_elim, arith}
 use Rattle.std.specs.Int.{int_min}
 use Rattle.std.proofs.lemmas.Int.{ints, clamps}
@@ -62,22 +63,22 @@ module _ (f g : WishModel → ℤ) where
   sum_same same (w ∷ ws) n = ap₂ (λ x y. cond (w.level == n) x (pos 0) +ℤ y) (same w) (sum_same same ws n)
 
 -- a level that no wish has
-unused : (f : WishModel → ℤ) (ws : List WishModel) (n : ℕ) → list_any (λ w. nat_eq w.level n) ws ≡ false → sum_at f ws n ≡ pos 0
+unused : (f : WishModel → ℤ) (ws : List WishModel) (n : ℕ) → list_any (λ w. w.level == n) ws ≡ false → sum_at f ws n ≡ pos 0
 unused f [] n h = refl
 unused f (w ∷ ws) n h =
-    let b = or_parts (w.level == n) (list_any (λ w. nat_eq w.level n) ws) h in
+    let b = or_parts (w.level == n) (list_any (λ w. w.level == n) ws) h in
     ap₂ (λ x y. cond x (f w) (pos 0) +ℤ y) b.0 (unused f ws n b.1)
 
 -- the levels of the wishes that a file holds
-used_range : (wishes : List Wish) (n : ℕ) → list_any (λ w. nat_eq w.level n) (map wish_of wishes) ≡ true → (1 ≤ n) × (n ≤ top)
+used_range : (wishes : List Wish) (n : ℕ) → list_any (λ w. w.level == n) (map wish_of wishes) ≡ true → (1 ≤ n) × (n ≤ top)
 used_range [] n t = absurd (both_ways false refl t)
 used_range (w ∷ ws) n t = ⊎_elim
     (λ e. let q = eqb-true w.level n e in (omega (arith, w.low), omega (arith, w.high)))
     (used_range ws n)
-    (or_cases (w.level == n) (list_any (λ w. nat_eq w.level n) (map wish_of ws)) t)
+    (or_cases (w.level == n) (list_any (λ w. w.level == n) (map wish_of ws)) t)
 
 no_level : (f : WishModel → ℤ) (wishes : List Wish) (n : ℕ) → ((1 ≤ n) × (n ≤ top) → ⊥) → sum_at f (map wish_of wishes) n ≡ pos 0
-no_level f wishes n out = ⊎_elim (λ t. absurd (out (used_range wishes n t))) (unused f (map wish_of wishes) n) (cases_Bool (list_any (λ w. nat_eq w.level n) (map wish_of wishes)))
+no_level f wishes n out = ⊎_elim (λ t. absurd (out (used_range wishes n t))) (unused f (map wish_of wishes) n) (cases_Bool (list_any (λ w. w.level == n) (map wish_of wishes)))
 
 -- ---- the laws
 
@@ -126,7 +127,7 @@ module _ (wishes : List Wish) where
         level = d.level;
         used = ⊎_elim (λ t. t)
             (λ f. let a = unused (wish_cost x) (map wish_of wishes) d.level f in let b = unused (wish_cost y) (map wish_of wishes) d.level f in absurd (omega (arith, ints, d.less)))
-            (cases_Bool (list_any (λ w. nat_eq w.level d.level) (map wish_of wishes)));
+            (cases_Bool (list_any (λ w. w.level == d.level) (map wish_of wishes)));
         less = d.less;
         same = d.same;
       }

@@ -1,19 +1,20 @@
 -- What wishes cost, level by level, and which sheet dominates which, as Lierler defines it for weak constraints
 -- in "An Abstract View on Optimizations in Propositional Frameworks".
-use Rattle.std.specs.Prelude.{◌≡◌, ℕ, zero, suc, ◌-◌, ◌<◌, Bool, true, false, cond, ◌&&◌, List, [], ◌∷◌, ℤ, pos, ◌+ℤ◌, ◌<ℤ◌, ◌==◌, int_lt, nat_eq, nat_le, slice_index_or}
+use Rattle.std.specs.Prelude.{◌≡◌, ℕ, zero, suc, ◌-◌, ◌<◌, Bool, true, false, cond, ◌&&◌, List, [], ◌∷◌, ℤ, pos, ◌+ℤ◌, ◌<ℤ◌, ◌==◌, int_lt, nat_le, slice_index_or}
 use Rattle.std.specs.Int.{int_min}
 use Rattle.std.specs.List.{list_all, list_any}
-use Rattle.sheets.specs.Sheets.{others}
+use Rattle.sheets.specs.Sheets.{Sheet, others}
 use Rattle.sheets.specs.Literals.{held, holds}
 use Rattle.sheets.specs.Scaling.{first_decides}
 use Rattle.rulefile.specs.Model.{WishModel}
 
 -- the weight of the wish, if all its literals hold in the sheet z
-abbrev pub wish_cost : ℕ → WishModel → ℤ
+abbrev pub wish_cost : Sheet → WishModel → ℤ
 wish_cost z w = cond (list_all (holds z) w.literals) w.weight (pos 0)
 
--- within a part-sheet: the weight if the wish holds in every sheet, 0 if one literal fails in all, else the smaller of the weight and 0
-abbrev pub wish_floor : ℕ → ℕ → WishModel → ℤ
+-- within a part-sheet, by its present marks p and its absent marks a: the weight if the wish holds in every sheet, 0 if one
+-- literal fails in all, else the smaller of the weight and 0
+abbrev pub wish_floor : Sheet → Sheet → WishModel → ℤ
 wish_floor p a w =
     cond (list_all (held p (others a)) w.literals) w.weight (cond (list_all (held (others a) p) w.literals) (int_min w.weight (pos 0)) (pos 0))
 
@@ -43,8 +44,8 @@ first_less (x ∷ xs) [] = false
 first_less (x ∷ xs) (y ∷ ys) = first_decides int_lt x y (first_less xs ys)
 
 -- the sheet x dominates the sheet y: at a level that a wish has, its sum is less, and at every greater level the sums are equal
-pub record Dominates (ws : List WishModel) (x y : ℕ) : Type 0 where
+pub record Dominates (ws : List WishModel) (x y : Sheet) : Type 0 where
   pub level : ℕ
-  pub used : list_any (λ w. nat_eq w.level level) ws ≡ true
+  pub used : list_any (λ w. w.level == level) ws ≡ true
   pub less : sum_at (wish_cost x) ws level <ℤ sum_at (wish_cost y) ws level
   pub same : (m : ℕ) → level < m → sum_at (wish_cost x) ws m ≡ sum_at (wish_cost y) ws m

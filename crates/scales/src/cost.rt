@@ -5,9 +5,10 @@ ghost use Rattle.scales.specs.Words.{cost_words};
 
 use std::fmt;
 
-// The costs from level 8 down to level 1, in the order in which they are compared: an array is, place by place.
+// The costs at each level, compared from level 8 down.
 #[derive(Clone, Copy, Debug, PartialEq, Eq, PartialOrd, Ord)]
 pub struct LevelCost {
+    // From level 8 at place 0 down to level 1 at place 7.
     pub(crate) levels: [i32; 8],
 }
 

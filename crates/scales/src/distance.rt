@@ -8,10 +8,12 @@ use sheets::{PartSheet, Scale, Sheet};
 // Costs a sheet by the number of marks in which it differs from the house sheet.
 #[derive(Clone, Copy)]
 pub struct Distance {
+    // The sheet from which is counted.
     house: Sheet,
 }
 
 impl Distance {
+    // The distance from this house sheet.
     pub fn new(house: Sheet) -> Distance
         ensures { result.house ≡ house }
     {
@@ -31,7 +33,7 @@ impl Scale for Distance {
 
     ghost scaling = { λ d. distance_of d.house };
 
-    ghost lawful = { λ d. distance_laws d.house };
+    ghost keeps_laws = { λ d. distance_laws d.house };
 
     // Only decided marks count.
     fn floor(&self, part: PartSheet) -> u32 {

@@ -13,10 +13,12 @@ use std::rc::Rc;
 // Costs a sheet by the wishes of a file, which it shares with judges and other scales.
 #[derive(Drop)]
 pub struct Levels {
+    // Its wishes are what a sheet costs.
     file: Rc<RuleFile>,
 }
 
 impl Levels {
+    // The wishes of the file.
     pub fn new(file: Rc<RuleFile>) -> Levels
         ensures { result.file ≡ file }
     {
@@ -45,7 +47,7 @@ impl Scale for Levels {
 
     ghost scaling = { λ l. levels_of (wishes_of l) };
 
-    ghost lawful = { λ l. levels_laws (wishes_of l) };
+    ghost keeps_laws = { λ l. levels_laws (wishes_of l) };
 
     fn floor(&self, part: PartSheet) -> LevelCost {
         LevelCost {

@@ -7,6 +7,7 @@ ghost use Rattle.scales.specs.Wishes.{wish_floor, sum_at, top, down_from};
 use rulefile::{RuleFile, Wish};
 use sheets::PartSheet;
 
+// What the wish costs at least in a sheet within the part-sheet.
 fn wish_floor(wish: &Wish, part: PartSheet) -> i16
     ensures { result ≡ wish_floor part.present part.absent (wish_of wish.now) }
 {

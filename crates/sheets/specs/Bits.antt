@@ -1,4 +1,4 @@
--- The marks of a word.
+-- Lemmas; no contract names what stands here. The marks of a word.
 use Rattle.std.specs.Prelude.{◌≡◌, ℕ, zero, suc, ◌+◌, ◌-◌, ◌*◌, ◌/◌, ◌%◌, ◌^◌, ◌<◌, ◌≤◌, min, max, true, false, not, ◌&&◌, ◌||◌, Decides, ◌==◌, bit_and, bit_or, nat_eq, nat_lt}
 use Rattle.std.proofs.Common.{sym, ap, subst, ◌∙◌, ⊎_elim, div-one, add-zero, add-suc, one-add, arith, pow_mono}
 use Rattle.std.proofs.Math.Nat.{pow-succ'}

@@ -1,4 +1,4 @@
--- The laws of the judge that is made of two.
+-- Lemmas; no contract names what stands here. The laws of the judge that is made of two.
 use Rattle.std.specs.Prelude.{◌≡◌, ℕ, true}
 use Rattle.std.proofs.Common.{⊎_elim, arith}
 use Rattle.std.proofs.lemmas.Bool.{or_cases, or_parts}

@@ -1,4 +1,5 @@
--- Orders in which a first part decides before the rest, and the laws of the scale that is made of two.
+-- Lemmas; no contract names what stands here. Orders in which a first part decides before the rest, and the
+-- laws of the scale that is made of two.
 use Rattle.std.specs.Prelude.{◌≡◌, Bool, true, false, not, ◌&&◌, ◌||◌, ◌⊎◌, refl}
 use Rattle.std.proofs.Common.{sym, ap, ap₂, ◌∙◌, inl, inr, ⊎_elim}
 use Rattle.std.proofs.lemmas.Bool.{both_ways, cases_Bool, or_left, or_from, and_right}

@@ -8,21 +8,23 @@ use crate::part::PartSheet;
 // Allows the sheets that both judges allow.
 #[derive(Drop)]
 pub struct Both<J, K> {
+    // Asked first.
     pub first: J,
+    // Asked where the first does not call the part-sheet dead.
     pub second: K,
 }
 
 impl<J: Judge, K: Judge> Judge for Both<J, K> {
     ghost judging = { λ b. both (J.Judge.judging b.first) (K.Judge.judging b.second) };
 
-    ghost lawful = { λ b. both_laws (J.Judge.judging b.first) (K.Judge.judging b.second) (J.Judge.lawful b.first) (K.Judge.lawful b.second) };
+    ghost keeps_laws = { λ b. both_laws (J.Judge.judging b.first) (K.Judge.judging b.second) (J.Judge.keeps_laws b.first) (K.Judge.keeps_laws b.second) };
 
     // The smaller of the two counts.
     fn count(&self) -> u8 {
         self.first.count().min(self.second.count())
     }
 
-    // One of the two calls the part-sheet dead.
+    // At least one of the two calls the part-sheet dead.
     fn dead(&self, part: PartSheet) -> bool {
         self.first.dead(part) || self.second.dead(part)
     }

@@ -8,7 +8,9 @@ use crate::scale::Scale;
 // Costs are pairs, and the first part is compared before the second.
 #[derive(Drop)]
 pub struct FirstThen<S, T> {
+    // Its costs are compared before those of the other.
     pub first: S,
+    // Its costs decide where those of the first are the same.
     pub then: T,
 }
 
@@ -17,7 +19,7 @@ impl<S: Scale, T: Scale> Scale for FirstThen<S, T> {
 
     ghost scaling = { λ b. first_then (S.Scale.scaling b.first) (T.Scale.scaling b.then) };
 
-    ghost lawful = { λ b. first_then_laws (S.Scale.scaling b.first) (T.Scale.scaling b.then) (S.Scale.lawful b.first) (T.Scale.lawful b.then) };
+    ghost keeps_laws = { λ b. first_then_laws (S.Scale.scaling b.first) (T.Scale.scaling b.then) (S.Scale.keeps_laws b.first) (T.Scale.keeps_laws b.then) };
 
     fn floor(&self, part: PartSheet) -> (S::Cost, T::Cost) {
         (self.first.floor(part), self.then.floor(part))

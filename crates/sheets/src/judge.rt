@@ -17,6 +17,6 @@ pub trait Judge {
     fn dead(&self, part: PartSheet) -> bool
         ensures { result ≡ (judging self.now).dead part.present part.absent };
 
-    // What every judge keeps to.
-    ghost lawful: { (j : Self) → JudgeLaws (judging j) };
+    // It keeps the laws of a judge.
+    ghost keeps_laws: { (j : Self) → JudgeLaws (judging j) };
 }

@@ -5,8 +5,8 @@ ghost use Rattle.sheets.specs.Literals.{held};
 
 use crate::marks::{Mark, Sheet, has_mark};
 
-// Holds in a sheet that has the mark; where it is negated, in a sheet that lacks it. A flag and not two cases: the range
-// test and the reduct read the mark without asking.
+// Holds in a sheet that has the mark; where it is negated, in a sheet that lacks it. A flag, so that the mark is read
+// without asking.
 #[derive(Clone, Copy, Debug, PartialEq, Eq)]
 pub struct Literal {
     pub mark: Mark,

@@ -7,6 +7,7 @@ use crate::part::PartSheet;
 // Says what each sheet costs, and what the sheets within a part-sheet cost at least. It compares costs itself, and not by
 // `Ord` of their type: two scales may order one kind of cost in two ways.
 pub trait Scale {
+    // What sheets cost.
     type Cost: Copy;
 
     // The cost of each sheet, the floor of each part-sheet, and the order of costs.
@@ -24,6 +25,6 @@ pub trait Scale {
     fn same(&self, a: Self::Cost, b: Self::Cost) -> bool
         ensures { IsTrue result ↔ (a ≡ b) };
 
-    // What every scale keeps to.
-    ghost lawful: { (s : Self) → ScaleLaws (scaling s) };
+    // It keeps the laws of a scale.
+    ghost keeps_laws: { (s : Self) → ScaleLaws (scaling s) };
 }

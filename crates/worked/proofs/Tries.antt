@@ -10,7 +10,7 @@ use Rattle.judges.specs.Programs.{Satisfies, rule_holds, reduct, AnswerSet}
 use Rattle.judges.specs.Books.{obeys, lawful}
 use Rattle.judges.specs.Verdicts.{FirstBroken, FirstUngrounded}
 use Rattle.judges.specs.Grounds.{lawful_yes, lawful_from, obeyed}
-use Rattle.judges.specs.Laws.{inside}
+use Rattle.judges.specs.BookLaws.{inside}
 use Rattle.scales.specs.Wishes.{wish_cost, sum_at}
 use Rattle.orders.specs.Searches.{present_at, absent_at, none, more}
 use Rattle.worked.specs.Cases.{at_most_one, each_other, if_missing, if_not_missing, budget, two_levels, CasesStand}

@@ -37,18 +37,18 @@ returns-then-len-capacity-clause-log g c =
     let old = c.args.log.now in
     let new = c.loop-call.log in
     let inv = c.loop-call.invariant in
-    along_room _ _ _ _ (g.met.J.Judge.lawful c.args.judge) (g.met.S.Scale.lawful c.args.scale) _ _ _ _ inv.0 (within_room old new inv.3)
+    along_room _ _ _ _ (g.met.J.Judge.keeps_laws c.args.judge) (g.met.S.Scale.keeps_laws c.args.scale) _ _ _ _ inv.0 (within_room old new inv.3)
     (omega (arith, old.ok.0, old.ok.1, new.ok.0, inv.3, c.len.ensures, c.capacity.ensures, c.if-len-capacity.true))
 
 -- the stage does not have the call
 pub returns-in_default-clause-log : goal.returns-in_default-clause-log
 returns-in_default-clause-log g c =
     let inv = c.loop-call.invariant in
-    along_stops _ _ _ _ (g.met.J.Judge.lawful c.args.judge) (g.met.S.Scale.lawful c.args.scale) _ _ _ _ inv.0 (within_room c.args.log.now c.loop-call.log inv.3)
+    along_stops _ _ _ _ (g.met.J.Judge.keeps_laws c.args.judge) (g.met.S.Scale.keeps_laws c.args.scale) _ _ _ _ inv.0 (within_room c.args.log.now c.loop-call.log inv.3)
     (call.Pin 0) c.loop-call-test.true c.in_default.ensures
 
 -- all calls are answered
 pub returns-clause-log : goal.returns-clause-log
 returns-clause-log g c =
     let inv = c.loop-call.invariant in
-    along_all _ _ _ _ (g.met.J.Judge.lawful c.args.judge) (g.met.S.Scale.lawful c.args.scale) _ _ _ _ inv.0 (within_room c.args.log.now c.loop-call.log inv.3) c.loop-call-test.false
+    along_all _ _ _ _ (g.met.J.Judge.keeps_laws c.args.judge) (g.met.S.Scale.keeps_laws c.args.scale) _ _ _ _ inv.0 (within_room c.args.log.now c.loop-call.log inv.3) c.loop-call-test.false

@@ -11,6 +11,6 @@ returns g c =
     let word : z < 2 ^ width = omega arith in
     let part = c.of_sheet.result in
     let same : s.floor part.present part.absent ≡ s.floor z (others z) = ap₂ s.floor c.of_sheet.ensures.present c.of_sheet.ensures.absent in
-    let whole : s.floor z (others z) ≡ s.cost z = (g.met.S.Scale.lawful c.args.scale.now).exact z (others z) (sheet_part z word) (sheet_full z word) in
+    let whole : s.floor z (others z) ≡ s.cost z = (g.met.S.Scale.keeps_laws c.args.scale.now).exact z (others z) (sheet_part z word) (sheet_full z word) in
     let told : c.floor.result ≡ s.floor part.present part.absent = c.floor.ensures in
     told ∙ (same ∙ whole)

@@ -18,10 +18,10 @@ returns-clause-search g c =
     let told = c.begin-walk.ensures in
     let ended : Ended j s me.search last = rw (told.judge, told.scale, told.search) at c.finish.ensures in
     let its_held : c.last.inside.held ≡ last.held = ap (λ (x : Search). x.held) c.last.view_is in
-    let laws = under_laws (g.J.Judge.judging acts.judge) (acts_of acts) acts.docket.ranges (g.met.J.Judge.lawful acts.judge) in
+    let laws = under_laws (g.J.Judge.judging acts.judge) (acts_of acts) acts.docket.ranges (g.met.J.Judge.keeps_laws acts.judge) in
     record {
       last = last;
       ended = ended;
       its_held = its_held;
-      best = λ reached. subst (λ h. Best j s (priced s h)) (sym its_held) (ended_best j s laws (g.met.S.Scale.lawful scale) me.search last reached.0 reached.1 ended);
+      best = λ reached. subst (λ h. Best j s (priced s h)) (sym its_held) (ended_best j s laws (g.met.S.Scale.keeps_laws scale) me.search last reached.0 reached.1 ended);
     }

@@ -12,7 +12,7 @@ pub loop-self-smaller : goal.loop-self-smaller
 loop-self-smaller g c =
     let going = ap (λ w. w.search.finished) (sym c.self.view_is) ∙ c.loop-self-test.true in
     let w = c.loop-self.self in
-    next_less (g.J.Judge.judging w.judge.now) (g.S.Scale.scaling w.scale.now) width (g.met.J.Judge.lawful w.judge.now).few _ _ going c.step.ensures.search
+    next_less (g.J.Judge.judging w.judge.now) (g.S.Scale.scaling w.scale.now) width (g.met.J.Judge.keeps_laws w.judge.now).few _ _ going c.step.ensures.search
 
 pub loop-self-preserved : goal.loop-self-preserved
 loop-self-preserved g c =

@@ -1,4 +1,4 @@
--- The laws of the printer's list.
+-- Lemmas; no contract names what stands here. The laws of the printer's list.
 use Rattle.std.specs.Prelude.{◌≡◌, ℕ, ◌^◌, true, not, nat_lt}
 use Rattle.std.proofs.Common.{sym, ap, ◌∙◌, ⊎_elim, arith}
 use Rattle.std.proofs.lemmas.Bool.{both_ways, or_cases, or_parts, not-true, not-false, lt-ltb, ltb-true}

@@ -1,4 +1,4 @@
--- The laws of the book.
+-- Lemmas; no contract names what stands here. The laws of the book.
 use Rattle.std.specs.Prelude.{◌≡◌, ℕ, ◌-◌, ◌^◌, ◌<◌, ◌≤◌, true, false, not, ◌&&◌, List, [], ◌∷◌, Some, None, Option, ◌≢◌, bit_and, nat_le, nat_lt, refl}
 use Rattle.std.proofs.Common.{ap, subst, ◌∙◌, ⊎_elim, arith}
 use Rattle.std.specs.Int.Bits.{mask_lt}
