@@ -13,6 +13,7 @@ behind w = drop w.len w.out.now
 
 -- the writer has this buffer, as it is, and nothing is written
 pub record Starts (out : MutBor (List ℕ)) (w : Writer) : Type 0 where
+  -- it is the same reference (`ghost_name` is its name in contracts)
   pub same_reference : w.out.ghost_name ≡ out.ghost_name
   pub bytes : w.out.now ≡ out.now
   pub none : w.len ≡ 0
@@ -23,6 +24,7 @@ pub record HasRoom (w : Writer) (text : List ℕ) : Type 0 where
 
 -- the text was written behind what was written; all other bytes stay
 pub record Writes (old : Writer) (text : List ℕ) (new : Writer) : Type 0 where
+  -- the writer has the same reference
   pub same_reference : new.out.ghost_name ≡ old.out.ghost_name
   pub same_length : length new.out.now ≡ length old.out.now
   pub len : new.len ≡ old.len + length text

@@ -42,7 +42,9 @@ impl Error for Refusal {}
 // `ReadError`.
 #[derive(Clone, Copy, Debug, PartialEq, Eq)]
 pub enum ReportError {
+    // The report is refused.
     Refused(Refusal),
+    // An allocation failed.
     Memory,
 }
 
