@@ -30,7 +30,11 @@ impl fmt::Display for Refusal {
 
     fn fmt<W: fmt::Write>(&self, f: &mut fmt::Formatter<W>) -> fmt::Result {
         match self {
-            Refusal::BufferSmall => f.write_str("refused 31: the buffer has fewer than 4096 bytes"),
+            Refusal::BufferSmall => write!(
+                f,
+                "refused {}: the buffer has fewer than 4096 bytes",
+                self.number()
+            ),
         }
     }
 }
