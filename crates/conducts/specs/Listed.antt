@@ -1,4 +1,4 @@
--- The laws of a table.
+-- Lemmas; no contract names what stands here. The laws of a table.
 use Rattle.std.specs.Prelude.{◌≡◌, ℕ, ◌^◌, ◌<◌, ◌≤◌, true, List, ◌==◌, bit_and, nat_eq}
 use Rattle.std.proofs.Common.{sym, ap, ◌∙◌, ⊎_elim, arith, pow_mono}
 use Rattle.std.specs.Int.Bits.{and_lt}

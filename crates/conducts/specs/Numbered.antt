@@ -1,4 +1,4 @@
--- The laws of the number of a sheet.
+-- Lemmas; no contract names what stands here. The laws of the number of a sheet.
 use Rattle.std.specs.Prelude.{ℕ, ◌≤◌, bit_and, nat_lt, refl}
 use Rattle.std.proofs.Common.{sym, ◌∙◌, inl, inr, ⊎_elim, arith}
 use Rattle.std.proofs.lemmas.Bool.{cases_order, and_from, and_parts, lt-ltb, le-ltb, ltb-true}

@@ -40,6 +40,7 @@ fn is_in(sheet: Sheet, mark: Mark) -> bool {
     mark < 64 && (sheet >> mark) & 1 == 1
 }
 
+// The sheet keeps the act.
 fn keeps(act: Act, sheet: Sheet) -> bool {
     match act {
         Act::Pin(mark) => is_in(sheet, mark),

@@ -11,6 +11,7 @@ fn with_cost<C: Into<Cost>>(held: Option<(Sheet, C)>) -> Option<(Sheet, Cost)> {
     held.map(|(sheet, cost)| (sheet, cost.into()))
 }
 
+// The cost that is shown.
 fn cost_of(held: Option<(Sheet, Cost)>) -> Option<Cost> {
     held.map(|(_, cost)| cost)
 }
@@ -20,17 +21,19 @@ fn is_no_rise(before: Option<Cost>, after: Option<Cost>) -> bool {
     before.is_none_or(|old| after.is_some_and(|new| new <= old))
 }
 
+// What an advance returns is right: the steps are so many, or the search is finished; a finished search holds the best sheet;
+// nothing cheaper lies before the place; the sheet that is held is left open, and has the cost that is shown.
 fn is_progress_right<C: Copy + Into<Cost>>(
     open: OpenSheets<'_>,
     most: u16,
     progress: Progress<C>,
 ) -> bool {
     let held = with_cost(progress.held);
-    let is_counted = progress.taken <= most && (progress.taken == most || progress.finished);
+    let is_counted = progress.steps <= most && (progress.steps == most || progress.finished);
     let is_ended = !progress.finished || held == open.best();
-    let is_covered = !open.is_missed(progress.place, cost_of(held));
+    let is_nothing_missed = !open.is_missed(progress.place, cost_of(held));
     let is_open = held.is_none_or(|(sheet, cost)| open.has(sheet) && cost == open.case.cost(sheet));
-    is_counted && is_ended && is_covered && is_open
+    is_counted && is_ended && is_nothing_missed && is_open
 }
 
 // The answer is the expected one: so many acts, a refusal that also has the right number, or none at another stage.
@@ -80,6 +83,7 @@ impl Follower<'_> {
     }
 }
 
+// Compares each answer of the log with what is expected of it, and adds it to the tally.
 pub fn follow<C: Copy + Into<Cost>>(
     heap: Global,
     case: &Case,

@@ -3,6 +3,7 @@ use orders::{Act, Call, Refusal};
 use sheets::{Mark, Sheet};
 use std::alloc::{AllocError, Global};
 
+// How many acts can stand: the program's own number.
 const MOST_ACTS: usize = 32;
 
 // The number by which the refusal is to be known: the program's own table, which the engine's numbers are held against.

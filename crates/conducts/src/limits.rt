@@ -54,8 +54,8 @@ impl fmt::Display for Line {
             }
             Answer::Moved => write!(f, "another stage"),
             Answer::Shown(progress) => {
-                let taken = progress.taken;
-                write!(f, "{taken} steps")
+                let steps = progress.steps;
+                write!(f, "{steps} steps")
             }
             Answer::Final(Some((sheet, cost))) => write!(f, "sheet {sheet}, cost {cost}"),
             Answer::Final(None) => write!(f, "no sheet"),

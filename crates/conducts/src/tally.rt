@@ -82,7 +82,7 @@ impl Tally {
             Answer::Moved => self.moved = self.moved.wrapping_add(1),
             Answer::Shown(progress) => {
                 self.advances = self.advances.wrapping_add(1);
-                self.steps = self.steps.wrapping_add(u64::from(progress.taken));
+                self.steps = self.steps.wrapping_add(u64::from(progress.steps));
             }
             Answer::Final(Some(_)) => self.sheets = self.sheets.wrapping_add(1),
             Answer::Final(None) => self.none = self.none.wrapping_add(1),

@@ -43,6 +43,7 @@ impl fmt::Display for SheetText {
     }
 }
 
+// Displays a mark, or "not" and a mark.
 #[derive(Clone, Copy)]
 struct LiteralText(Literal);
 
@@ -54,6 +55,7 @@ impl fmt::Display for LiteralText {
     }
 }
 
+// Displays a literal and its weight.
 #[derive(Clone, Copy)]
 struct ElementText(Element);
 
@@ -65,6 +67,7 @@ impl fmt::Display for ElementText {
     }
 }
 
+// Displays the bounds of a constraint, and its elements in braces.
 #[derive(Clone, Copy)]
 struct ConstraintText<'a>(&'a Constraint);
 
@@ -90,6 +93,7 @@ pub enum RecordText<'a> {
     Act(Act),
 }
 
+// The number of the rule, its head, and its body if there is one.
 fn write_rule<W: fmt::Write>(f: &mut Formatter<W>, number: usize, rule: &Rule) -> fmt::Result {
     let head = ConstraintText(&rule.head);
     write!(f, "rule {number}: {head}")?;
@@ -99,6 +103,7 @@ fn write_rule<W: fmt::Write>(f: &mut Formatter<W>, number: usize, rule: &Rule) -
     write_between(f, rule.body.iter().map(ConstraintText), " and ")
 }
 
+// The literals of the clause, of which one is to hold.
 fn write_clause<W: fmt::Write>(f: &mut Formatter<W>, clause: &Clause) -> fmt::Result {
     f.write_str("clause: ")?;
     if clause.literals.is_empty() {
@@ -107,6 +112,7 @@ fn write_clause<W: fmt::Write>(f: &mut Formatter<W>, clause: &Clause) -> fmt::Re
     write_between(f, clause.literals.iter().copied().map(LiteralText), " or ")
 }
 
+// The level and the weight of the wish, and the literals that are all to hold.
 fn write_wish<W: fmt::Write>(f: &mut Formatter<W>, wish: &Wish) -> fmt::Result {
     let level = wish.level;
     let weight = wish.weight;

@@ -9,7 +9,7 @@ use Rattle.orders.specs.declared.calls.Call.{Call}
 use Rattle.orders.specs.declared.calls.Answer.{Answer}
 use Rattle.orders.specs.declared.calls.Event.{Event}
 use Rattle.orders.specs.Searches.{start}
-use Rattle.orders.specs.Stages.{marking, stage_of, leads_to, same_stage, allowed}
+use Rattle.orders.specs.Stages.{marking, stage_of, leads_to, same_stage, calls_had}
 use Rattle.orders.specs.Logs.{calls_of, Conducted}
 use Rattle.orders.specs.Turns.{State, Turn}
 use Rattle.orders.proofs.Runs.{Runs, begun, runs_one}
@@ -47,7 +47,7 @@ module _ {C : Type 0} (j : Judging) (s : Scaling C) (calls : List Call) (before 
     many = ap length a.added ∙ length-append before a.events
 
     -- the calls that are left, of which none is to be answered
-    along_ends : (rest : List Call) → calls ≡ calls_of a.events ++ rest → (allowed u.stage rest ≡ 0) ⊎ (length a.events ≡ room) → Conducted j s room calls before after
+    along_ends : (rest : List Call) → calls ≡ calls_of a.events ++ rest → (calls_had u.stage rest ≡ 0) ⊎ (length a.events ≡ room) → Conducted j s room calls before after
     along_ends rest e stop = record {
       events = a.events;
       added = a.added;
@@ -70,4 +70,4 @@ module _ {C : Type 0} (j : Judging) (s : Scaling C) (calls : List Call) (before 
     along_stops d lt missing =
         let next = get_or calls i d in
         along_ends (drop i calls) left_over
-        (inl (ap (allowed u.stage) (drop_more calls i d lt) ∙ cond-false (same_stage u.stage (stage_of next)) (suc (allowed (leads_to next) (drop (i + 1) calls))) 0 missing))
+        (inl (ap (calls_had u.stage) (drop_more calls i d lt) ∙ cond-false (same_stage u.stage (stage_of next)) (suc (calls_had (leads_to next) (drop (i + 1) calls))) 0 missing))

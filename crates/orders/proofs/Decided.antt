@@ -28,36 +28,36 @@ module _ (k : ℕ) (few : k ≤ width) where
 
 module _ (n : ℕ) (x : Search) (few : n ≤ width) (well : Well n x) where
   decided_word : decided_at n x < 2 ^ width
-  decided_word = or_lt width (first_marks x.decided) (others (first_marks n)) (first_word x.decided) (others_word (first_marks n) (first_word n))
+  decided_word = or_lt width (first_marks x.depth) (others (first_marks n)) (first_word x.depth) (others_word (first_marks n) (first_word n))
 
   pub place_word : x.present < 2 ^ width
   place_word =
-      let within : x.decided ≤ width = omega (arith, well.few) in
-      let wide : 2 ^ x.decided ≤ 2 ^ width = pow_mono {i = x.decided} {j = width} within in
+      let within : x.depth ≤ width = omega (arith, well.few) in
+      let wide : 2 ^ x.depth ≤ 2 ^ width = pow_mono {i = x.depth} {j = width} within in
       omega (arith, well.low)
 
-  has_decided : (i : ℕ) → has (decided_at n x) i ≡ (has (first_marks x.decided) i || has (others (first_marks n)) i)
-  has_decided = has_or (first_marks x.decided) (others (first_marks n))
+  has_decided : (i : ℕ) → has (decided_at n x) i ≡ (has (first_marks x.depth) i || has (others (first_marks n)) i)
+  has_decided = has_or (first_marks x.depth) (others (first_marks n))
 
-  -- the marks below the decided number are decided
-  decided_low : (i : ℕ) → i < x.decided → has (decided_at n x) i ≡ true
-  decided_low i lt = has_decided i ∙ or_left (has (first_marks x.decided) i) (has (others (first_marks n)) i) (first_low x.decided (omega (arith, well.few)) i lt)
+  -- the marks below the depth are decided
+  decided_low : (i : ℕ) → i < x.depth → has (decided_at n x) i ≡ true
+  decided_low i lt = has_decided i ∙ or_left (has (first_marks x.depth) i) (has (others (first_marks n)) i) (first_low x.depth (omega (arith, well.few)) i lt)
 
   -- and so are those from the count upward
   decided_high : (i : ℕ) → n ≤ i → i < width → has (decided_at n x) i ≡ true
   decided_high i from lt =
       has_decided i
-      ∙ or_right (has (first_marks x.decided) i) (has (others (first_marks n)) i) (has_others (first_marks n) (first_word n) i lt ∙ ap not (first_high n few i from))
+      ∙ or_right (has (first_marks x.depth) i) (has (others (first_marks n)) i) (has_others (first_marks n) (first_word n) i lt ∙ ap not (first_high n few i from))
 
   -- and no others
-  decided_where : (i : ℕ) → has (decided_at n x) i ≡ true → (i < x.decided) ⊎ (n ≤ i)
+  decided_where : (i : ℕ) → has (decided_at n x) i ≡ true → (i < x.depth) ⊎ (n ≤ i)
   decided_where i t = ⊎_elim
-      (λ low. inl (⊎_elim (λ lt. lt) (λ from. absurd (both_ways (has (first_marks x.decided) i) (first_high x.decided (omega (arith, well.few)) i from) low)) (cases_lt i x.decided)))
+      (λ low. inl (⊎_elim (λ lt. lt) (λ from. absurd (both_ways (has (first_marks x.depth) i) (first_high x.depth (omega (arith, well.few)) i from) low)) (cases_lt i x.depth)))
       (λ high. inr (⊎_elim (λ lt. absurd (both_ways (has (others (first_marks n)) i) (others_apart (first_marks n) (first_word n) i (first_low n few i lt)) high)) (λ from. from) (cases_lt i n)))
-      (or_cases (has (first_marks x.decided) i) (has (others (first_marks n)) i) (sym (has_decided i) ∙ t))
+      (or_cases (has (first_marks x.depth) i) (has (others (first_marks n)) i) (sym (has_decided i) ∙ t))
 
-  pub present_decided : MarksBelow x.decided x.present
-  present_decided = below_marks x.decided x.present well.low
+  pub present_decided : MarksBelow x.depth x.present
+  present_decided = below_marks x.depth x.present well.low
 
   -- ---- the marks of the place
 
@@ -83,11 +83,11 @@ module _ (n : ℕ) (x : Search) (few : n ≤ width) (well : Well n x) where
       (λ f. f)
       (cases_Bool (has x.present i))
 
-  absent_where : (i : ℕ) → has (absent_at n x) i ≡ true → (i < x.decided) ⊎ (n ≤ i)
+  absent_where : (i : ℕ) → has (absent_at n x) i ≡ true → (i < x.depth) ⊎ (n ≤ i)
   absent_where i t = decided_where i (absent_parts i t).1
 
   -- and what is neither present nor open is absent
-  pub lacks_absent : (i : ℕ) → i < width → has x.present i ≡ false → (i < x.decided) ⊎ (n ≤ i) → has (absent_at n x) i ≡ true
+  pub lacks_absent : (i : ℕ) → i < width → has x.present i ≡ false → (i < x.depth) ⊎ (n ≤ i) → has (absent_at n x) i ≡ true
   unfolding absent_at
   lacks_absent i lt f which =
       has_and (others x.present) (decided_at n x) i
@@ -106,7 +106,7 @@ module _ (n : ℕ) (x : Search) (few : n ≤ width) (well : Well n x) where
   }
 
   -- a sheet of marks below the count lies within exactly if it agrees
-  pub place_within : (z : ℕ) → MarksBelow n z → Agrees x.decided x.present z → Within (present_at n x) (absent_at n x) z
+  pub place_within : (z : ℕ) → MarksBelow n z → Agrees x.depth x.present z → Within (present_at n x) (absent_at n x) z
   place_within z below agrees =
       let small = marks_below n z below in
       let wide : 2 ^ n ≤ 2 ^ width = pow_mono {i = n} {j = width} few in
@@ -119,22 +119,22 @@ module _ (n : ℕ) (x : Search) (few : n ≤ width) (well : Well n x) where
             (absent_where i t);
       }
 
-  pub within_agrees : (z : ℕ) → Within (present_at n x) (absent_at n x) z → Agrees x.decided x.present z
+  pub within_agrees : (z : ℕ) → Within (present_at n x) (absent_at n x) z → Agrees x.depth x.present z
   within_agrees z within i lt = ⊎_elim
       (λ t. within.all i (has_present i ∙ t) ∙ sym t)
       (λ f. within.none i (lacks_absent i (omega (arith, well.few)) f (inl lt)) ∙ sym f)
       (cases_Bool (has x.present i))
 
   -- where all marks below the count are decided, the place is full
-  pub place_full : n ≤ x.decided → Full (present_at n x) (absent_at n x)
+  pub place_full : n ≤ x.depth → Full (present_at n x) (absent_at n x)
   place_full all i lt = ⊎_elim
       (λ t. inl (has_present i ∙ t))
-      (λ f. inr (lacks_absent i lt f (⊎_elim inl (λ from. inr (omega arith)) (cases_lt i x.decided))))
+      (λ f. inr (lacks_absent i lt f (⊎_elim inl (λ from. inr (omega arith)) (cases_lt i x.depth))))
       (cases_Bool (has x.present i))
 
   -- ---- the sheets before
 
-  pub precedes_lies : (z : ℕ) → Precedes x.decided x.present z → LiesBefore (present_at n x) (absent_at n x) z
+  pub precedes_lies : (z : ℕ) → Precedes x.depth x.present z → LiesBefore (present_at n x) (absent_at n x) z
   precedes_lies z p = record {
     mark = p.mark;
     there = has_present p.mark ∙ p.there;
@@ -143,7 +143,7 @@ module _ (n : ℕ) (x : Search) (few : n ≤ width) (well : Well n x) where
     same_absent = λ i lt t. p.agree i lt ∙ absent_lacks i t;
   }
 
-  pub lies_precedes : (z : ℕ) → LiesBefore (present_at n x) (absent_at n x) z → Precedes x.decided x.present z
+  pub lies_precedes : (z : ℕ) → LiesBefore (present_at n x) (absent_at n x) z → Precedes x.depth x.present z
   lies_precedes z l =
       let there : has x.present l.mark ≡ true = sym (has_present l.mark) ∙ l.there in
       let decided = present_decided l.mark there in

@@ -10,8 +10,8 @@ use Rattle.orders.proofs.Powers.{has_plus, has_minus, minus_below, plus_below, o
 
 -- at most n marks are decided, and only decided ones are present
 pub record Well (n : ℕ) (x : Search) : Type 0 where
-  pub few : x.decided ≤ n
-  pub low : x.present < 2 ^ x.decided
+  pub few : x.depth ≤ n
+  pub low : x.present < 2 ^ x.depth
 
 -- the sheet z agrees with a place that decides k marks, of which those of p are present
 abbrev pub Agrees : ℕ → ℕ → ℕ → Type 0
@@ -27,7 +27,7 @@ pub record Precedes (k p z : ℕ) : Type 0 where
 
 -- it lies before the place of a search
 abbrev pub Past : Search → ℕ → Type 0
-Past x z = (x.finished ≡ true) ⊎ Precedes x.decided x.present z
+Past x z = (x.finished ≡ true) ⊎ Precedes x.depth x.present z
 
 -- it lies before a place or within it
 abbrev pub UpTo : ℕ → ℕ → ℕ → Type 0
@@ -35,7 +35,7 @@ UpTo k p z = Precedes k p z ⊎ Agrees k p z
 
 -- the last absent decision is turned
 abbrev pub turned : ℕ → ℕ → Option ℕ → Search
-turned k p held = record { decided = suc k; present = p + 2 ^ k; held = held; finished = false }
+turned k p held = record { depth = suc k; present = p + 2 ^ k; held = held; finished = false }
 
 -- ---- by the last decision, as the code has it
 
@@ -43,9 +43,9 @@ module _ (p last : ℕ) (held : Option ℕ) where
   pub dismissed_present : has p last ≡ true → dismissed last (p - 2 ^ last) held ≡ dismissed (suc last) p held
   dismissed_present e = sym (cond-true (has p last) (dismissed last (p - 2 ^ last) held) (turned last p held) e)
 
-  pub dismissed_absent : has p last ≡ false → record { decided = last + 1; present = bit_or p (2 ^ last); held = held; finished = false } ≡ dismissed (suc last) p held
+  pub dismissed_absent : has p last ≡ false → record { depth = last + 1; present = bit_or p (2 ^ last); held = held; finished = false } ≡ dismissed (suc last) p held
   dismissed_absent e =
-      ap₂ (λ k q. record { decided = k; present = q; held = held; finished = false }) (add-one last) (or_plus last p e)
+      ap₂ (λ k q. record { depth = k; present = q; held = held; finished = false }) (add-one last) (or_plus last p e)
       ∙ sym (cond-false (has p last) (dismissed last (p - 2 ^ last) held) (turned last p held) e)
 
 -- ---- what it keeps

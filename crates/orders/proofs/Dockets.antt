@@ -10,19 +10,19 @@ use Rattle.orders.specs.declared.acts.Act.TheVariants.{Pin, Bar, Strike}
 use Rattle.orders.specs.declared.acts.Refusal.{Refusal}
 use Rattle.orders.specs.declared.acts.Refusal.TheVariants.{MarkRange, MarkTaken, SheetStruck, DocketFull}
 use Rattle.orders.specs.Acts.{in_range}
-use Rattle.orders.specs.Dockets.{beyond, applies, first_that, refused_act, unless, taken, undone}
+use Rattle.orders.specs.Dockets.{beyond, applies, first_that, refused_act, unless, after_act, after_undo}
 
 -- ---- acts that name only marks that there are
 
 pub all_push : (acts : List Act) (a : Act) → list_all in_range acts ≡ true → in_range a ≡ true → list_all in_range (acts ++ (a ∷ [])) ≡ true
 all_push acts a p q = list_all-append in_range acts (a ∷ []) ∙ and_from _ _ p (and_from _ _ q refl)
 
-pub all_undone : (acts : List Act) → list_all in_range acts ≡ true → list_all in_range (undone acts) ≡ true
-all_undone [] p = refl
-all_undone (a ∷ []) p = refl
-all_undone (a ∷ (b ∷ acts)) p =
+pub all_after_undo : (acts : List Act) → list_all in_range acts ≡ true → list_all in_range (after_undo acts) ≡ true
+all_after_undo [] p = refl
+all_after_undo (a ∷ []) p = refl
+all_after_undo (a ∷ (b ∷ acts)) p =
     let r = and_parts (in_range a) (list_all in_range (b ∷ acts)) p in
-    and_from (in_range a) (list_all in_range (undone (b ∷ acts))) r.0 (all_undone (b ∷ acts) r.1)
+    and_from (in_range a) (list_all in_range (after_undo (b ∷ acts))) r.0 (all_after_undo (b ∷ acts) r.1)
 
 -- ---- an act that is not refused
 
@@ -42,8 +42,8 @@ module _ (n : ℕ) (acts : List Act) where
   accepted_range (Bar m) few e = lt-ltb m width (omega (arith, leb-false n m (within_count (Bar m) e)))
   accepted_range (Strike z) few e = refl
 
-  pub all_taken : (a : Act) → n ≤ width → list_all in_range acts ≡ true → list_all in_range (taken n acts a) ≡ true
-  all_taken a few low = go (refused_act n acts a) refl
+  pub all_after_act : (a : Act) → n ≤ width → list_all in_range acts ≡ true → list_all in_range (after_act n acts a) ≡ true
+  all_after_act a few low = go (refused_act n acts a) refl
     where
       go : (o : Option Refusal) → refused_act n acts a ≡ o → list_all in_range (unless o acts (acts ++ (a ∷ []))) ≡ true
       go (Some why) e = low
@@ -51,10 +51,10 @@ module _ (n : ℕ) (acts : List Act) where
 
 -- ---- the last act taken off
 
-undone_push : (acts : List Act) (a : Act) → undone (acts ++ (a ∷ [])) ≡ acts
-undone_push [] a = refl
-undone_push (x ∷ []) a = refl
-undone_push (x ∷ (y ∷ acts)) a = ap (λ l. x ∷ l) (undone_push (y ∷ acts) a)
+undo_push : (acts : List Act) (a : Act) → after_undo (acts ++ (a ∷ [])) ≡ acts
+undo_push [] a = refl
+undo_push (x ∷ []) a = refl
+undo_push (x ∷ (y ∷ acts)) a = ap (λ l. x ∷ l) (undo_push (y ∷ acts) a)
 
-pub undone_pop : (old new : List Act) (last : Option Act) (a : Act) → old ≡ new ++ option_to_list last → last ≡ Some a → new ≡ undone old
-undone_pop old new last a parts is = sym (ap undone (parts ∙ ap (λ o. new ++ option_to_list o) is) ∙ undone_push new a)
+pub undo_pop : (old new : List Act) (last : Option Act) (a : Act) → old ≡ new ++ option_to_list last → last ≡ Some a → new ≡ after_undo old
+undo_pop old new last a parts is = sym (ap after_undo (parts ∙ ap (λ o. new ++ option_to_list o) is) ∙ undo_push new a)

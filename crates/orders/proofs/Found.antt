@@ -6,7 +6,7 @@ use Rattle.sheets.specs.Judging.{Judging, JudgeLaws}
 use Rattle.sheets.specs.Scaling.{Scaling, ScaleLaws}
 use Rattle.sheets.specs.Bits.{has_high, marks_below, same_marks}
 use Rattle.orders.specs.Search.{Search}
-use Rattle.orders.specs.Searches.{start, present_at, absent_at, dismissed, too_dear, dead_at, dear_at, dismisses, stepped, Steps, none, more, Ended, priced}
+use Rattle.orders.specs.Searches.{start, present_at, absent_at, dismissed, floor_not_below, dead_at, floor_not_below_at, dismisses, stepped, Steps, none, more, Ended, priced}
 use Rattle.orders.specs.Best.{Best}
 use Rattle.orders.proofs.Dismissals.{Well, Agrees, Precedes, Past, UpTo, dismissed_held, dismissed_well, precedes_on, past_from, past_to}
 use Rattle.orders.proofs.Decided.{present_same, place_part, place_within, place_full}
@@ -16,8 +16,8 @@ use Rattle.orders.proofs.Walks.{deeper, step_cases, steps_join}
 
 module _ {C : Type 0} (s : Scaling C) (laws : ScaleLaws s) where
   -- c ≤ b and b ≤ a
-  no_less_trans : (a b c : C) → s.below a b ≡ false → s.below b c ≡ false → s.below a c ≡ false
-  no_less_trans a b c ab bc = ⊎_elim (λ t. absurd (go t (laws.order.some b c))) (λ f. f) (cases_Bool (s.below a c))
+  at_most_trans : (a b c : C) → s.below a b ≡ false → s.below b c ≡ false → s.below a c ≡ false
+  at_most_trans a b c ab bc = ⊎_elim (λ t. absurd (go t (laws.order.some b c))) (λ f. f) (cases_Bool (s.below a c))
     where
       go : s.below a c ≡ true → (s.below b c ≡ true) ⊎ ((b ≡ c) ⊎ (s.below c b ≡ true)) → ⊥
       go t (inl lt) = both_ways (s.below b c) bc lt
@@ -25,8 +25,8 @@ module _ {C : Type 0} (s : Scaling C) (laws : ScaleLaws s) where
       go t (inr (inr gt)) = both_ways (s.below a b) ab (laws.order.transitive a c b t gt)
 
   -- a < b and b ≤ c
-  less_than_no_less : (a b c : C) → s.below a b ≡ true → s.below c b ≡ false → s.below a c ≡ true
-  less_than_no_less a b c ab cb = go (laws.order.some a c)
+  less_at_most : (a b c : C) → s.below a b ≡ true → s.below c b ≡ false → s.below a c ≡ true
+  less_at_most a b c ab cb = go (laws.order.some a c)
     where
       go : (s.below a c ≡ true) ⊎ ((a ≡ c) ⊎ (s.below c a ≡ true)) → s.below a c ≡ true
       go (inl lt) = lt
@@ -70,9 +70,9 @@ module _ {C : Type 0} (j : Judging) (s : Scaling C) where
       (b.0, inl b.1, (λ z al q. ⊎_elim (b.2 z al) (λ a. absurd (barren z al a)) q), (λ z al q e. ⊎_elim (λ r. b.3 z al r e) (λ a. absurd (barren z al a)) q))
 
   -- more sheets of which none costs less than the one held, and none is earlier
-  best_dear : (R A : ℕ → Type 0) (h : ℕ) → ((z : ℕ) → j.allows z → A z → s.below (s.cost z) (s.cost h) ≡ false) → ((z : ℕ) → A z → Earlier z h → ⊥)
+  best_no_cheaper : (R A : ℕ → Type 0) (h : ℕ) → ((z : ℕ) → j.allows z → A z → s.below (s.cost z) (s.cost h) ≡ false) → ((z : ℕ) → A z → Earlier z h → ⊥)
       → BestIn R (Some h) → BestIn (λ z. R z ⊎ A z) (Some h)
-  best_dear R A h dear late b =
+  best_no_cheaper R A h dear late b =
       (b.0, inl b.1, (λ z al q. ⊎_elim (b.2 z al) (dear z al) q), (λ z al q e. ⊎_elim (λ r. b.3 z al r e) (λ a. absurd (late z a e)) q))
 
   -- what a search keeps
@@ -100,10 +100,10 @@ module _ {C : Type 0} (j : Judging) (s : Scaling C) (jl : JudgeLaws j) (sl : Sca
 
   module _ (x : Search) (well : Well j.count x) where
     abbrev here : ℕ → Type 0
-    here = Agrees x.decided x.present
+    here = Agrees x.depth x.present
 
     abbrev before : ℕ → Type 0
-    before = Precedes x.decided x.present
+    before = Precedes x.depth x.present
 
     within : (z : ℕ) → j.allows z → here z → Within (present_at j.count x) (absent_at j.count x) z
     within z al a = place_within j.count x jl.few well z (jl.inside z al) a
@@ -115,29 +115,29 @@ module _ {C : Type 0} (j : Judging) (s : Scaling C) (jl : JudgeLaws j) (sl : Sca
     pub dead_barren : dead_at j s x ≡ true → (z : ℕ) → j.allows z → here z → ⊥
     dead_barren dead z al a = jl.sound (present_at j.count x) (absent_at j.count x) z part dead (within z al a) al
 
-    -- no allowed sheet within a place that is too dear costs less than the sheet that is held
-    pub dear_no_less : (h z : ℕ) → too_dear s (Some h) (s.floor (present_at j.count x) (absent_at j.count x)) ≡ true → Within (present_at j.count x) (absent_at j.count x) z
+    -- no sheet within a place whose floor is not below the cost of the sheet that is held costs less than that sheet
+    pub within_no_cheaper : (h z : ℕ) → floor_not_below s (Some h) (s.floor (present_at j.count x) (absent_at j.count x)) ≡ true → Within (present_at j.count x) (absent_at j.count x) z
         → s.below (s.cost z) (s.cost h) ≡ false
-    dear_no_less h z dear within =
+    within_no_cheaper h z dear within =
         let floor = s.floor (present_at j.count x) (absent_at j.count x) in
-        no_less_trans s sl (s.cost z) floor (s.cost h)
+        at_most_trans s sl (s.cost z) floor (s.cost h)
         (sl.bound (present_at j.count x) (absent_at j.count x) z part within)
         (not-true (s.below floor (s.cost h)) dear)
 
-    case_dead : dead_at j s x ≡ true → BestIn j s before x.held → BestIn j s (UpTo x.decided x.present) x.held
+    case_dead : dead_at j s x ≡ true → BestIn j s before x.held → BestIn j s (UpTo x.depth x.present) x.held
     case_dead dead b = best_none j s before here (dead_barren dead) x.held b
 
-    case_dear : (h : Option ℕ) → too_dear s h (s.floor (present_at j.count x) (absent_at j.count x)) ≡ true → BestIn j s before h → BestIn j s (UpTo x.decided x.present) h
-    case_dear None dear b = absurd (both_ways false refl dear)
-    case_dear (Some h) dear b =
-        best_dear j s before here h (λ z al a. dear_no_less h z dear (within z al a)) (λ z a e. not_earlier x.decided x.present h z b.1 a e) b
+    case_floor : (h : Option ℕ) → floor_not_below s h (s.floor (present_at j.count x) (absent_at j.count x)) ≡ true → BestIn j s before h → BestIn j s (UpTo x.depth x.present) h
+    case_floor None dear b = absurd (both_ways false refl dear)
+    case_floor (Some h) dear b =
+        best_no_cheaper j s before here h (λ z al a. within_no_cheaper h z dear (within z al a)) (λ z a e. not_earlier x.depth x.present h z b.1 a e) b
 
-    module _ (full : j.count ≤ x.decided) where
+    module _ (full : j.count ≤ x.depth) where
       -- of the sheets of marks below the count, only its own lies within a full place
       pub only_sheet : (z : ℕ) → MarksBelow j.count z → here z → z ≡ x.present
       only_sheet z below a =
-          let e : j.count ≡ x.decided = omega (arith, well.few) in
-          same_marks x.decided z x.present (subst (λ n. z < 2 ^ n) e (marks_below j.count z below)) well.low a
+          let e : j.count ≡ x.depth = omega (arith, well.few) in
+          same_marks x.depth z x.present (subst (λ n. z < 2 ^ n) e (marks_below j.count z below)) well.low a
 
       every : Full (present_at j.count x) (absent_at j.count x)
       every = place_full j.count x jl.few well full
@@ -146,17 +146,17 @@ module _ {C : Type 0} (j : Judging) (s : Scaling C) (jl : JudgeLaws j) (sl : Sca
       its_floor = sl.exact (present_at j.count x) (absent_at j.count x) part every ∙ ap s.cost (present_same j.count x jl.few well)
 
       -- each allowed sheet before it costs more
-      less : (h : Option ℕ) → too_dear s h (s.floor (present_at j.count x) (absent_at j.count x)) ≡ false → BestIn j s before h
+      less : (h : Option ℕ) → floor_not_below s h (s.floor (present_at j.count x) (absent_at j.count x)) ≡ false → BestIn j s before h
           → (z : ℕ) → j.allows z → before z → s.below (s.cost x.present) (s.cost z) ≡ true
       less None cheap b z al l = absurd (b z al l)
       less (Some h) cheap b z al l =
-          less_than_no_less s sl (s.cost x.present) (s.cost h) (s.cost z)
+          less_at_most s sl (s.cost x.present) (s.cost h) (s.cost z)
           (ap (λ f. s.below f (s.cost h)) (sym its_floor) ∙ not-false (s.below (s.floor (present_at j.count x) (absent_at j.count x)) (s.cost h)) cheap)
           (b.2 z al l)
 
-      case_held : dismisses j s x ≡ false → BestIn j s before x.held → BestIn j s (UpTo x.decided x.present) (Some x.present)
+      case_held : dismisses j s x ≡ false → BestIn j s before x.held → BestIn j s (UpTo x.depth x.present) (Some x.present)
       case_held kept b =
-          let parts = or_parts (dead_at j s x) (dear_at j s x) kept in
+          let parts = or_parts (dead_at j s x) (floor_not_below_at j s x) kept in
           let costs = less x.held parts.1 b in (
             subst j.allows (present_same j.count x jl.few well) (jl.full_allowed (present_at j.count x) (absent_at j.count x) part every parts.0),
             inr (λ i lt. refl),
@@ -173,7 +173,7 @@ module _ {C : Type 0} (j : Judging) (s : Scaling C) (jl : JudgeLaws j) (sl : Sca
     past_deeper z (inl bad) = absurd (both_ways false refl bad)
     past_deeper z (inr l) = record {
       mark = l.mark;
-      decided = ⊎_elim (λ lt. lt) (λ le. absurd (both_ways (has x.present l.mark) (has_high x.decided x.present l.mark well.low le) l.there)) (cases_lt l.mark x.decided);
+      decided = ⊎_elim (λ lt. lt) (λ le. absurd (both_ways (has x.present l.mark) (has_high x.depth x.present l.mark well.low le) l.there)) (cases_lt l.mark x.depth);
       lacks = l.lacks;
       there = l.there;
       agree = l.agree;
@@ -182,23 +182,23 @@ module _ {C : Type 0} (j : Judging) (s : Scaling C) (jl : JudgeLaws j) (sl : Sca
     case_deeper : BestIn j s before x.held → BestIn j s (Past (deeper x)) x.held
     case_deeper b =
         best_like j s before (Past (deeper x))
-        (λ z l. inr (precedes_on x.decided (x.decided + 1) x.present x.present z (λ i lt. refl) (omega arith) l))
+        (λ z l. inr (precedes_on x.depth (x.depth + 1) x.present x.present z (λ i lt. refl) (omega arith) l))
         past_deeper x.held b
 
-  pub deeper_well : (x : Search) → x.decided < j.count → Well j.count x → Well j.count (deeper x)
+  pub deeper_well : (x : Search) → x.depth < j.count → Well j.count x → Well j.count (deeper x)
   deeper_well x lt well =
-      let wide : 2 ^ x.decided ≤ 2 ^ (x.decided + 1) = pow_mono {i = x.decided} {j = x.decided + 1} (omega arith) in
+      let wide : 2 ^ x.depth ≤ 2 ^ (x.depth + 1) = pow_mono {i = x.depth} {j = x.depth + 1} (omega arith) in
       record { few = omega arith; low = omega (arith, well.low) }
 
   pub sound_step : (x : Search) → x.finished ≡ false → Sound j s x → Sound j s (stepped j s x)
   sound_step x going sound =
       let well = sound.well in
-      let b : BestIn j s (Precedes x.decided x.present) x.held =
-      best_like j s (Past x) (Precedes x.decided x.present) (λ z q. ⊎_elim (λ bad. absurd (both_ways x.finished going bad)) (λ l. l) q) (λ z l. inr l) x.held sound.best in
+      let b : BestIn j s (Precedes x.depth x.present) x.held =
+      best_like j s (Past x) (Precedes x.depth x.present) (λ z q. ⊎_elim (λ bad. absurd (both_ways x.finished going bad)) (λ l. l) q) (λ z l. inr l) x.held sound.best in
       step_cases j s x (Sound j s)
-      (λ t. dismiss_sound x.decided x.present x.held well.few well.low
-      (⊎_elim (λ d. case_dead x well d b) (λ d. case_dear x well x.held d b) (or_cases (dead_at j s x) (dear_at j s x) t)))
-      (λ f full. dismiss_sound x.decided x.present (Some x.present) well.few well.low (case_held x well full f b))
+      (λ t. dismiss_sound x.depth x.present x.held well.few well.low
+      (⊎_elim (λ d. case_dead x well d b) (λ d. case_floor x well x.held d b) (or_cases (dead_at j s x) (floor_not_below_at j s x) t)))
+      (λ f full. dismiss_sound x.depth x.present (Some x.present) well.few well.low (case_held x well full f b))
       (λ f lt. record { well = deeper_well x lt well; best = case_deeper x well b })
 
   -- ---- every search that began at the start

@@ -14,10 +14,10 @@ use Rattle.orders.specs.Search.{Search}
 use Rattle.orders.specs.Acts.{in_range, under}
 use Rattle.orders.specs.Searches.{start, present_at, absent_at, Steps, none, priced}
 use Rattle.orders.specs.Places.{LiesBefore, Before}
-use Rattle.orders.specs.Best.{Best, NoLess}
+use Rattle.orders.specs.Best.{Best, CostsAtMost}
 use Rattle.orders.specs.Calls.{Advanced}
-use Rattle.orders.specs.Stages.{marking, allowed}
-use Rattle.orders.specs.Logs.{docket, calls_of, ByDocket, EventIn, spent, OnlyAdvances, AllowedShown, NotCheaper, Shows, Settles, acts_at, Kept}
+use Rattle.orders.specs.Stages.{marking, calls_had}
+use Rattle.orders.specs.Logs.{docket, calls_of, ByDocket, EventIn, steps_so_far, OnlyAdvances, AllowedShown, NotCheaper, Shows, Settles, acts_at, Kept}
 use Rattle.orders.specs.Turns.{State, Turn}
 use Rattle.orders.proofs.Dismissals.{Past}
 use Rattle.orders.proofs.Decided.{lies_precedes}
@@ -25,8 +25,8 @@ use Rattle.orders.proofs.Walks.{steps_join}
 use Rattle.orders.proofs.Remaining.{steps_bound}
 use Rattle.orders.proofs.Found.{BestIn, Sound, sound_reached, best_finished}
 use Rattle.orders.proofs.Falls.{falls}
-use Rattle.orders.specs.Under.{under_laws, dearer_best}
-use Rattle.orders.proofs.Runs.{Runs, begun, runs_split, acts_run, allowed_run, Gone, gone_begun, gone_run}
+use Rattle.orders.specs.Under.{under_laws, more_acts_best}
+use Rattle.orders.proofs.Runs.{Runs, begun, runs_split, acts_run, calls_had_run, Gone, gone_begun, gone_run}
 
 same_shown : {C : Type 0} (p q : Progress C) → Shown p ≡ Shown q → p ≡ q
 same_shown p q e = cc
@@ -48,8 +48,8 @@ module _ {C : Type 0} (j : Judging) (s : Scaling C) (jl : JudgeLaws j) (x : Sear
   before_past z (inl ended) = inl ended
   before_past z (inr lies) = inr (lies_precedes j.count x jl.few sound.well z lies)
 
-  held_covers : (z : ℕ) → j.allows z → Before x.finished (present_at j.count x) (absent_at j.count x) z → NotCheaper s (priced s x.held) z
-  held_covers z al before = go x.held sound.best
+  held_none_cheaper : (z : ℕ) → j.allows z → Before x.finished (present_at j.count x) (absent_at j.count x) z → NotCheaper s (priced s x.held) z
+  held_none_cheaper z al before = go x.held sound.best
     where
       go : (h : Option ℕ) → BestIn j s (Past x) h → NotCheaper s (priced s h) z
       go None b = b z al (before_past z before)
@@ -64,22 +64,19 @@ module _ {C : Type 0} (j : Judging) (s : Scaling C) (jl : JudgeLaws j) (sl : Sca
 
     shows : (n k : ℕ) (x y : Search) (p : Progress C) → Steps (under j acts) s start k x → Advanced (under j acts) s n x p y → Shows (under j acts) s n k p
     shows n k x y p steps a =
-        let on = steps_join (under j acts) s start x y k p.taken steps a.walked.steps in
-        let sound = sound_from y (k + p.taken) on in
+        let on = steps_join (under j acts) s start x y k p.steps steps a.walked.steps in
+        let sound = sound_from y (k + p.steps) on in
         record {
           reached = y;
           steps = on;
           few = a.walked.few;
-          all = λ lt. a.finished ∙ a.walked.all lt;
-          finished = a.finished;
-          present = a.present;
-          absent = a.absent;
-          held = a.held;
-          allowed_held = subst (AllowedShown (under j acts) s) (sym a.held) (held_allowed (under j acts) s (under_laws j acts low jl) y sound);
-          covered = λ z al before.
-              subst (λ h. NotCheaper s h z) (sym a.held)
-              (held_covers (under j acts) s (under_laws j acts low jl) y sound z al
-              (⊎_elim (λ t. inl (sym a.finished ∙ t)) (λ l. inr (subst₂ (λ present absent. LiesBefore present absent z) a.present a.absent l)) before));
+          all = λ lt. a.shown.finished ∙ a.walked.all lt;
+          shown = a.shown;
+          allowed_held = subst (AllowedShown (under j acts) s) (sym a.shown.held) (held_allowed (under j acts) s (under_laws j acts low jl) y sound);
+          none_cheaper = λ z al before.
+              subst (λ h. NotCheaper s h z) (sym a.shown.held)
+              (held_none_cheaper (under j acts) s (under_laws j acts low jl) y sound z al
+              (⊎_elim (λ t. inl (sym a.shown.finished ∙ t)) (λ l. inr (subst₂ (λ present absent. LiesBefore present absent z) a.shown.present a.shown.absent l)) before));
         }
 
   settle_turn : (k : ℕ) (t : State) (r : Answer C) (u : State) → Gone j s k t → Turn j s t Settle r u → (answer : Option (ℕ × C)) × (r ≡ Final answer) × Settles (under j t.acts) s k answer
@@ -113,7 +110,7 @@ module _ {C : Type 0} (j : Judging) (s : Scaling C) (jl : JudgeLaws j) (sl : Sca
     turn : Turn j s from c r to
     rest : Runs j s to after last
     acts : from.acts ≡ docket j.count (calls_of before)
-    gone : Gone j s (spent before) from
+    gone : Gone j s (steps_so_far before) from
 
   at_event : (log before after : List (Event C)) (c : Call) (r : Answer C) (u : State) → Runs j s begun log u → log ≡ before ++ (record { call = c; answer = r } ∷ after) → AtEvent before after c r u
   at_event log before after c r u run e =
@@ -137,9 +134,9 @@ module _ {C : Type 0} (j : Judging) (s : Scaling C) (jl : JudgeLaws j) (sl : Sca
       let turn : Turn j s t (Advance only.0.0) e.answer v = subst (λ (c : Call). Turn j s t c e.answer v) only.0.1 run.1 in
       let a = turn.searches in
       let ih = advances_run v u log only.1 run.2 in (
-        a.0.taken + ih.0,
+        a.0.steps + ih.0,
         ih.1 ∙ turn.acts,
-        steps_join (under j t.acts) s t.search v.search u.search a.0.taken ih.0 a.2.walked.steps
+        steps_join (under j t.acts) s t.search v.search u.search a.0.steps ih.0 a.2.walked.steps
             (subst (λ (acts : List Act). Steps (under j acts) s v.search ih.0 u.search) turn.acts ih.2),
       )
 
@@ -158,52 +155,52 @@ module _ {C : Type 0} (j : Judging) (s : Scaling C) (jl : JudgeLaws j) (sl : Sca
       let a = turn.searches in
       let mid = advances_run u w middle only run in
       let same : t.acts ≡ w.acts = sym (mid.1 ∙ turn.acts) in
-      let on = steps_join (under j t.acts) s start t.search u.search k a.0.taken (g.steps turn.from) a.2.walked.steps in
+      let on = steps_join (under j t.acts) s start t.search u.search k a.0.steps (g.steps turn.from) a.2.walked.steps in
       record {
         first = u.search;
-        many = k + a.0.taken;
+        many = k + a.0.steps;
         more = mid.0;
         low = ap (list_all in_range) (sym same) ∙ g.low;
-        steps = subst (λ (acts : List Act). Steps (under j acts) s start (k + a.0.taken) u.search) same on;
-        held = ap (λ q. q.held) (same_shown p a.0 a.1) ∙ a.2.held;
+        steps = subst (λ (acts : List Act). Steps (under j acts) s start (k + a.0.steps) u.search) same on;
+        held = ap (λ q. q.held) (same_shown p a.0 a.1) ∙ a.2.shown.held;
         then = subst (λ (acts : List Act). Steps (under j acts) s u.search mid.0 w.search) (sym mid.1) mid.2;
       }
 
-  falls_since : (p : Progress C) (w : State) (y : Search) (n : ℕ) → Since p w → Steps (under j w.acts) s w.search n y → NoLess s (priced s y.held) p.held
+  falls_since : (p : Progress C) (w : State) (y : Search) (n : ℕ) → Since p w → Steps (under j w.acts) s w.search n y → CostsAtMost s (priced s y.held) p.held
   falls_since p w y n b rest =
-      subst (λ h. NoLess s (priced s y.held) h) (sym b.held)
+      subst (λ h. CostsAtMost s (priced s y.held) h) (sym b.held)
       (falls (under j w.acts) s (under_laws j w.acts b.low jl) sl b.first y b.many (b.more + n) b.steps
       (steps_join (under j w.acts) s b.first w.search y b.more n b.then rest))
 
   module _ (log : List (Event C)) (u : State) (run : Runs j s begun log u) where
     falling_run : (n k : ℕ) (p q : Progress C) (before middle after : List (Event C)) → OnlyAdvances middle →
-        log ≡ before ++ (record { call = Advance n; answer = Shown p } ∷ (middle ++ (record { call = Advance k; answer = Shown q } ∷ after))) → NoLess s q.held p.held
+        log ≡ before ++ (record { call = Advance n; answer = Shown p } ∷ (middle ++ (record { call = Advance k; answer = Shown q } ∷ after))) → CostsAtMost s q.held p.held
     falling_run n k p q before middle after only e =
         let last : List (Event C) = record { call = Advance k; answer = Shown q } ∷ after in
         let here = at_event log before (middle ++ last) (Advance n) (Shown p) u run e in
         let parts = runs_split j s here.to u middle last here.rest in
-        let b = since (spent before) n here.from here.to parts.0 p middle here.gone here.turn only parts.1 in
+        let b = since (steps_so_far before) n here.from here.to parts.0 p middle here.gone here.turn only parts.1 in
         let a = parts.2.1.searches in
-        let held : q.held ≡ priced s parts.2.0.search.held = ap (λ x. x.held) (same_shown q a.0 a.1) ∙ a.2.held in
-        subst (λ h. NoLess s h p.held) (sym held) (falls_since p parts.0 parts.2.0.search a.0.taken b a.2.walked.steps)
+        let held : q.held ≡ priced s parts.2.0.search.held = ap (λ x. x.held) (same_shown q a.0 a.1) ∙ a.2.shown.held in
+        subst (λ h. CostsAtMost s h p.held) (sym held) (falls_since p parts.0 parts.2.0.search a.0.steps b a.2.walked.steps)
 
     ending_run : (n : ℕ) (p : Progress C) (answer : Option (ℕ × C)) (before middle after : List (Event C)) → OnlyAdvances middle →
-        log ≡ before ++ (record { call = Advance n; answer = Shown p } ∷ (middle ++ (record { call = Settle; answer = Final answer } ∷ after))) → NoLess s answer p.held
+        log ≡ before ++ (record { call = Advance n; answer = Shown p } ∷ (middle ++ (record { call = Settle; answer = Final answer } ∷ after))) → CostsAtMost s answer p.held
     ending_run n p answer before middle after only e =
         let last : List (Event C) = record { call = Settle; answer = Final answer } ∷ after in
         let here = at_event log before (middle ++ last) (Advance n) (Shown p) u run e in
         let parts = runs_split j s here.to u middle last here.rest in
-        let b = since (spent before) n here.from here.to parts.0 p middle here.gone here.turn only parts.1 in
+        let b = since (steps_so_far before) n here.from here.to parts.0 p middle here.gone here.turn only parts.1 in
         let a = parts.2.1.searches in
-        subst (λ h. NoLess s h p.held) (sym (same_final answer (priced s a.0.held) a.1)) (falls_since p parts.0 a.0 a.2.remaining b a.2.steps)
+        subst (λ h. CostsAtMost s h p.held) (sym (same_final answer (priced s a.0.held) a.1)) (falls_since p parts.0 a.0 a.2.remaining b a.2.steps)
 
     -- ---- the whole promise
 
-    settled_at : (r : Answer C) (e : EventIn log Settle r) → (answer : Option (ℕ × C)) × (r ≡ Final answer) × Settles (under j (acts_at j s e)) s (spent e.before) answer
+    settled_at : (r : Answer C) (e : EventIn log Settle r) → (answer : Option (ℕ × C)) × (r ≡ Final answer) × Settles (under j (acts_at j s e)) s (steps_so_far e.before) answer
     settled_at r e =
         let here = at_event log e.before e.after Settle r u run e.here in
-        subst (λ (acts : List Act). (answer : Option (ℕ × C)) × (r ≡ Final answer) × Settles (under j acts) s (spent e.before) answer) here.acts
-        (settle_turn (spent e.before) here.from r here.to here.gone here.turn)
+        subst (λ (acts : List Act). (answer : Option (ℕ × C)) × (r ≡ Final answer) × Settles (under j acts) s (steps_so_far e.before) answer) here.acts
+        (settle_turn (steps_so_far e.before) here.from r here.to here.gone here.turn)
 
     best_at : (x : Option (ℕ × C)) (e : EventIn log Settle (Final x)) → Best (under j (acts_at j s e)) s x
     best_at x e =
@@ -211,11 +208,11 @@ module _ {C : Type 0} (j : Judging) (s : Scaling C) (jl : JudgeLaws j) (sl : Sca
         subst (Best (under j (acts_at j s e)) s) (sym (same_final x t.0 t.1)) t.2.best
 
     -- the rest of the calls is not answered: the room is at its end, or the stage does not have the next call
-    pub kept : (room : ℕ) (calls rest : List Call) → calls ≡ calls_of log ++ rest → length log ≤ room → (allowed u.stage rest ≡ 0) ⊎ (length log ≡ room) → Kept j s room calls log
+    pub kept : (room : ℕ) (calls rest : List Call) → calls ≡ calls_of log ++ rest → length log ≤ room → (calls_had u.stage rest ≡ 0) ⊎ (length log ≡ room) → Kept j s room calls log
     kept room calls rest e fits stop = record {
       answered =
-          let many : allowed marking calls ≡ length log + allowed u.stage rest = ap (allowed marking) e ∙ allowed_run j s begun u log rest run in
-          let few : min (allowed marking calls) room ≡ length log = ⊎_elim (λ z. omega (arith, many, z)) (λ z. omega (arith, many, z)) stop in
+          let many : calls_had marking calls ≡ length log + calls_had u.stage rest = ap (calls_had marking) e ∙ calls_had_run j s begun u log rest run in
+          let few : min (calls_had marking calls) room ≡ length log = ⊎_elim (λ z. omega (arith, many, z)) (λ z. omega (arith, many, z)) stop in
           sym (ap₂ (λ (m : ℕ) (cs : List Call). take m cs) few e ∙ take_calls log rest);
       decided = λ c r ev.
           let here = at_event log ev.before ev.after c r u run ev.here in
@@ -223,11 +220,11 @@ module _ {C : Type 0} (j : Judging) (s : Scaling C) (jl : JudgeLaws j) (sl : Sca
       settlings = settled_at;
       advances = λ n r ev.
           let here = at_event log ev.before ev.after (Advance n) r u run ev.here in
-          subst (λ (acts : List Act). (p : Progress C) × (r ≡ Shown p) × Shows (under j acts) s n (spent ev.before) p) here.acts
-          (advance_turn (spent ev.before) n here.from r here.to here.gone here.turn);
+          subst (λ (acts : List Act). (p : Progress C) × (r ≡ Shown p) × Shows (under j acts) s n (steps_so_far ev.before) p) here.acts
+          (advance_turn (steps_so_far ev.before) n here.from r here.to here.gone here.turn);
       falling = falling_run;
       ending = ending_run;
-      dearer = λ x y ev fv included. dearer_best j s (acts_at j s ev) (acts_at j s fv) x y included (best_at x ev) (best_at y fv);
+      more_acts = λ x y ev fv included. more_acts_best j s (acts_at j s ev) (acts_at j s fv) x y included (best_at x ev) (best_at y fv);
     }
       where
         take_calls : (l : List (Event C)) (rest : List Call) → take (length l) (calls_of l ++ rest) ≡ calls_of l

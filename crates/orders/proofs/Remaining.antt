@@ -32,7 +32,7 @@ after n (suc k) z = cond (has z k) (after n k z) (after n k z + size (n - suc k)
 
 -- the places from that of the search on
 pub left : ℕ → Search → ℕ
-left n x = cond x.finished 0 (after n x.decided x.present + size (n - x.decided))
+left n x = cond x.finished 0 (after n x.depth x.present + size (n - x.depth))
 
 after_same : (n k y z : ℕ) → ((i : ℕ) → i < k → has y i ≡ has z i) → after n k y ≡ after n k z
 unfolding after
@@ -63,19 +63,19 @@ left_dismissed n (suc k) z held =
     (λ e. ap (λ a. a + size (n - suc k)) (after_present n k (z + 2 ^ k) (has_plus_at k z ∙ ap not e) ∙ after_same n k (z + 2 ^ k) z (λ i lt. has_plus k z i lt)) ∙ sym (after_absent n k z e))
 
 module _ (n : ℕ) (x : Search) (going : x.finished ≡ false) where
-  left_going : left n x ≡ after n x.decided x.present + size (n - x.decided)
+  left_going : left n x ≡ after n x.depth x.present + size (n - x.depth)
   unfolding left
-  left_going = cond-false x.finished 0 (after n x.decided x.present + size (n - x.decided)) going
+  left_going = cond-false x.finished 0 (after n x.depth x.present + size (n - x.depth)) going
 
   -- dismissing goes forward
-  dismissed_less : (held : Option ℕ) → left n (dismissed x.decided x.present held) < left n x
-  dismissed_less held = omega (arith, left_going, left_dismissed n x.decided x.present held, size_pos (n - x.decided))
+  dismissed_less : (held : Option ℕ) → left n (dismissed x.depth x.present held) < left n x
+  dismissed_less held = omega (arith, left_going, left_dismissed n x.depth x.present held, size_pos (n - x.depth))
 
   -- and so does one decision more
-  deeper_less : x.decided < n → left n (deeper x) < left n x
+  deeper_less : x.depth < n → left n (deeper x) < left n x
   unfolding left
   deeper_less lt =
-      let k = x.decided in
+      let k = x.depth in
       let z = x.present in
       let s : n - k ≡ suc (n - suc k) = omega arith in
       let big : size (n - k) ≡ 1 + 2 * size (n - suc k) = ap size s ∙ size_suc (n - suc k) in

@@ -14,10 +14,10 @@ use Rattle.orders.specs.declared.calls.Event.{Event}
 use Rattle.orders.specs.Search.{Search}
 use Rattle.orders.specs.Acts.{in_range, under}
 use Rattle.orders.specs.Searches.{start, Steps, none}
-use Rattle.orders.specs.Stages.{Stage, marking, seeking, settled, stage_of, leads_to, same_stage, allowed}
-use Rattle.orders.specs.Logs.{fed, fed_all, calls_of, steps_in, spent_more, spent_from}
+use Rattle.orders.specs.Stages.{Stage, marking, seeking, settled, stage_of, leads_to, same_stage, calls_had}
+use Rattle.orders.specs.Logs.{after_call, after_calls, calls_of, steps_in, steps_after, steps_from}
 use Rattle.orders.specs.Turns.{State, Turn}
-use Rattle.orders.proofs.Dockets.{all_taken, all_undone}
+use Rattle.orders.proofs.Dockets.{all_after_act, all_after_undo}
 use Rattle.orders.proofs.Walks.{steps_join}
 
 -- an order begins marking, with no acts
@@ -30,16 +30,16 @@ marking_no_seeking e = cc
 settled_no_seeking : settled ≡ seeking → ⊥
 settled_no_seeking e = cc
 
-all_fed : (n : ℕ) (acts : List Act) (c : Call) → n ≤ width → list_all in_range acts ≡ true → list_all in_range (fed n acts c) ≡ true
-all_fed n acts (Pin mark) few low = all_taken n acts (act.Pin mark) few low
-all_fed n acts (Bar mark) few low = all_taken n acts (act.Bar mark) few low
-all_fed n acts (Strike sheet) few low = all_taken n acts (act.Strike sheet) few low
-all_fed n acts Undo few low = all_undone acts low
-all_fed n acts Seek few low = low
-all_fed n acts (Advance k) few low = low
-all_fed n acts Settle few low = low
-all_fed n acts Withdraw few low = low
-all_fed n acts Reopen few low = low
+all_after_call : (n : ℕ) (acts : List Act) (c : Call) → n ≤ width → list_all in_range acts ≡ true → list_all in_range (after_call n acts c) ≡ true
+all_after_call n acts (Pin mark) few low = all_after_act n acts (act.Pin mark) few low
+all_after_call n acts (Bar mark) few low = all_after_act n acts (act.Bar mark) few low
+all_after_call n acts (Strike sheet) few low = all_after_act n acts (act.Strike sheet) few low
+all_after_call n acts Undo few low = all_after_undo acts low
+all_after_call n acts Seek few low = low
+all_after_call n acts (Advance k) few low = low
+all_after_call n acts Settle few low = low
+all_after_call n acts Withdraw few low = low
+all_after_call n acts Reopen few low = low
 
 module _ {C : Type 0} (j : Judging) (s : Scaling C) where
   -- the events of the list lead from one state to the other
@@ -58,20 +58,20 @@ module _ {C : Type 0} (j : Judging) (s : Scaling C) where
       (r.0, (run.0, run.1, r.1), r.2)
 
   -- the acts are those of the docket
-  pub acts_run : (t u : State) (log : List (Event C)) → Runs t log u → u.acts ≡ fed_all j.count t.acts (calls_of log)
+  pub acts_run : (t u : State) (log : List (Event C)) → Runs t log u → u.acts ≡ after_calls j.count t.acts (calls_of log)
   acts_run t u [] run = ap (λ w. w.acts) (sym run)
-  acts_run t u (e ∷ log) run = acts_run run.0 u log run.2 ∙ ap (λ acts. fed_all j.count acts (calls_of log)) run.1.acts
+  acts_run t u (e ∷ log) run = acts_run run.0 u log run.2 ∙ ap (λ acts. after_calls j.count acts (calls_of log)) run.1.acts
 
   -- the stages have the calls
-  pub allowed_run : (t u : State) (log : List (Event C)) (rest : List Call) → Runs t log u → allowed t.stage (calls_of log ++ rest) ≡ length log + allowed u.stage rest
-  allowed_run t u [] rest run = ap (λ w. allowed w.stage rest) run ∙ omega arith
-  allowed_run t u (e ∷ log) rest run =
+  pub calls_had_run : (t u : State) (log : List (Event C)) (rest : List Call) → Runs t log u → calls_had t.stage (calls_of log ++ rest) ≡ length log + calls_had u.stage rest
+  calls_had_run t u [] rest run = ap (λ w. calls_had w.stage rest) run ∙ omega arith
+  calls_had_run t u (e ∷ log) rest run =
       let next = leads_to e.call in
       let more = calls_of log ++ rest in
       let has : same_stage t.stage (stage_of e.call) ≡ true = ap (λ w. same_stage w (stage_of e.call)) run.1.from ∙ itself (stage_of e.call) in
-      let ih = allowed_run run.0 u log rest run.2 in
-      cond-true (same_stage t.stage (stage_of e.call)) (suc (allowed next more)) 0 has
-      ∙ ap (λ w. suc (allowed w more)) (sym run.1.to)
+      let ih = calls_had_run run.0 u log rest run.2 in
+      cond-true (same_stage t.stage (stage_of e.call)) (suc (calls_had next more)) 0 has
+      ∙ ap (λ w. suc (calls_had w more)) (sym run.1.to)
       ∙ omega (arith, ih)
     where
       itself : (stage : Stage) → same_stage stage stage ≡ true
@@ -86,7 +86,7 @@ module _ {C : Type 0} (j : Judging) (s : Scaling C) where
     pub low : list_all in_range t.acts ≡ true
     pub steps : t.stage ≡ seeking → Steps (under j t.acts) s start n t.search
 
-  steps_turn : (k : ℕ) (t : State) (c : Call) (r : Answer C) (u : State) → Gone k t → Turn j s t c r u → u.stage ≡ seeking → Steps (under j u.acts) s start (spent_more k c r) u.search
+  steps_turn : (k : ℕ) (t : State) (c : Call) (r : Answer C) (u : State) → Gone k t → Turn j s t c r u → u.stage ≡ seeking → Steps (under j u.acts) s start (steps_after k c r) u.search
   steps_turn k t (Pin mark) r u g turn e = absurd (marking_no_seeking (sym turn.to ∙ e))
   steps_turn k t (Bar mark) r u g turn e = absurd (marking_no_seeking (sym turn.to ∙ e))
   steps_turn k t (Strike sheet) r u g turn e = absurd (marking_no_seeking (sym turn.to ∙ e))
@@ -95,23 +95,23 @@ module _ {C : Type 0} (j : Judging) (s : Scaling C) where
   steps_turn k t (Advance n) r u g turn e =
       let a = turn.searches in
       let walk = a.2.walked.steps in
-      let on = steps_join (under j t.acts) s start t.search u.search k a.0.taken (g.steps turn.from) walk in
+      let on = steps_join (under j t.acts) s start t.search u.search k a.0.steps (g.steps turn.from) walk in
       subst (λ (q : Answer C). Steps (under j u.acts) s start (k + steps_in q) u.search) (sym a.1)
-      (subst (λ (acts : List Act). Steps (under j acts) s start (k + a.0.taken) u.search) (sym turn.acts) on)
+      (subst (λ (acts : List Act). Steps (under j acts) s start (k + a.0.steps) u.search) (sym turn.acts) on)
   steps_turn k t Settle r u g turn e = absurd (settled_no_seeking (sym turn.to ∙ e))
   steps_turn k t Withdraw r u g turn e = absurd (marking_no_seeking (sym turn.to ∙ e))
   steps_turn k t Reopen r u g turn e = absurd (marking_no_seeking (sym turn.to ∙ e))
 
-  gone_turn : j.count ≤ width → (k : ℕ) (t : State) (c : Call) (r : Answer C) (u : State) → Gone k t → Turn j s t c r u → Gone (spent_more k c r) u
+  gone_turn : j.count ≤ width → (k : ℕ) (t : State) (c : Call) (r : Answer C) (u : State) → Gone k t → Turn j s t c r u → Gone (steps_after k c r) u
   gone_turn few k t c r u g turn = record {
-    low = ap (list_all in_range) turn.acts ∙ all_fed j.count t.acts c few g.low;
+    low = ap (list_all in_range) turn.acts ∙ all_after_call j.count t.acts c few g.low;
     steps = steps_turn k t c r u g turn;
   }
 
-  pub gone_run : j.count ≤ width → (k : ℕ) (t u : State) (log : List (Event C)) → Gone k t → Runs t log u → Gone (spent_from k log) u
+  pub gone_run : j.count ≤ width → (k : ℕ) (t u : State) (log : List (Event C)) → Gone k t → Runs t log u → Gone (steps_from k log) u
   gone_run few k t u [] g run = subst (λ (w : State). Gone k w) run g
   gone_run few k t u (e ∷ log) g run =
-      gone_run few (spent_more k e.call e.answer) run.0 u log (gone_turn few k t e.call e.answer run.0 g run.1) run.2
+      gone_run few (steps_after k e.call e.answer) run.0 u log (gone_turn few k t e.call e.answer run.0 g run.1) run.2
 
   pub gone_begun : Gone 0 begun
   gone_begun = record { low = refl; steps = λ e. absurd (marking_no_seeking e) }

@@ -5,13 +5,13 @@ use Rattle.sheets.specs.Sheets.{has, MarksBelow, Within, Earlier}
 use Rattle.sheets.specs.Judging.{Judging, JudgeLaws}
 use Rattle.sheets.specs.Scaling.{Scaling, ScaleLaws}
 use Rattle.orders.specs.Search.{Search}
-use Rattle.orders.specs.Searches.{start, present_at, absent_at, too_dear, dead_at, dear_at, dismisses, stepped}
+use Rattle.orders.specs.Searches.{start, present_at, absent_at, floor_not_below, dead_at, floor_not_below_at, dismisses, stepped}
 use Rattle.orders.specs.Theorems.{SearchEnds, BeforeAt, Passed, SearchInOrder}
 use Rattle.orders.proofs.Dismissals.{Well, Agrees, Precedes, Past, dismissed_held, past_from}
 use Rattle.orders.proofs.Decided.{place_within, precedes_lies, lies_precedes}
 use Rattle.orders.proofs.Walks.{stepped_dismissed, stepped_held, stepped_deeper, steps_same, steps_once}
 use Rattle.orders.proofs.Remaining.{steps_bound, steps_end}
-use Rattle.orders.proofs.Found.{Sound, sound_step, sound_reached, dead_barren, dear_no_less, only_sheet, past_deeper}
+use Rattle.orders.proofs.Found.{Sound, sound_step, sound_reached, dead_barren, within_no_cheaper, only_sheet, past_deeper}
 use Rattle.orders.proofs.Falls.{past_step}
 
 pub search_ends : {C : Type 0} (j : Judging) (s : Scaling C) → SearchEnds j s
@@ -54,46 +54,46 @@ module _ {C : Type 0} (j : Judging) (s : Scaling C) (jl : JudgeLaws j) (sl : Sca
   at_past x well z (inr l) = inr (precedes_lies j.count x jl.few well z l)
 
   module _ (x : Search) (going : x.finished ≡ false) (sound : Sound j s x) (z : ℕ) (below : MarksBelow j.count z) where
-    here : Agrees x.decided x.present z → Within (present_at j.count x) (absent_at j.count x) z
+    here : Agrees x.depth x.present z → Within (present_at j.count x) (absent_at j.count x) z
     here = place_within j.count x jl.few sound.well z below
 
-    dear_way : (held : Option ℕ) → too_dear s held (s.floor (present_at j.count x) (absent_at j.count x)) ≡ true → Agrees x.decided x.present z
+    floor_way : (held : Option ℕ) → floor_not_below s held (s.floor (present_at j.count x) (absent_at j.count x)) ≡ true → Agrees x.depth x.present z
         → (h : ℕ) × (held ≡ Some h) × (s.below (s.cost z) (s.cost h) ≡ false)
-    dear_way None dear a = absurd (both_ways false refl dear)
-    dear_way (Some h) dear a = (h, refl, dear_no_less j s jl sl x sound.well h z dear (here a))
+    floor_way None dear a = absurd (both_ways false refl dear)
+    floor_way (Some h) dear a = (h, refl, within_no_cheaper j s jl sl x sound.well h z dear (here a))
 
-    dismissed_passes : dismisses j s x ≡ true → Agrees x.decided x.present z → Passed j s x z
+    dismissed_passes : dismisses j s x ≡ true → Agrees x.depth x.present z → Passed j s x z
     dismissed_passes t a = record {
       within = here a;
       why = ⊎_elim
           (λ dead. inl (λ al. dead_barren j s jl sl x sound.well dead z al a))
-          (λ dear. inr (inl (dear_way x.held dear a)))
-          (or_cases (dead_at j s x) (dear_at j s x) t);
+          (λ dear. inr (inl (floor_way x.held dear a)))
+          (or_cases (dead_at j s x) (floor_not_below_at j s x) t);
     }
 
-    held_passes : dismisses j s x ≡ false → j.count ≤ x.decided → Agrees x.decided x.present z → Passed j s x z
+    held_passes : dismisses j s x ≡ false → j.count ≤ x.depth → Agrees x.depth x.present z → Passed j s x z
     held_passes f full a = record {
       within = here a;
       why = inr (inr (
           ap (λ y. y.held) (stepped_held j s x f full)
-          ∙ dismissed_held x.decided x.present (Some x.present)
+          ∙ dismissed_held x.depth x.present (Some x.present)
           ∙ ap Some (sym (only_sheet j s jl sl x sound.well full z below a))));
     }
 
     step_passes : Past (stepped j s x) z → Past x z ⊎ Passed j s x z
     step_passes past = ⊎_elim
         (λ t. ⊎_elim (λ l. inl (inr l)) (λ a. inr (dismissed_passes t a))
-        (past_from x.decided x.present z x.held (subst (λ (y : Search). Past y z) (stepped_dismissed j s x t) past)))
+        (past_from x.depth x.present z x.held (subst (λ (y : Search). Past y z) (stepped_dismissed j s x t) past)))
         (λ f. ⊎_elim
         (λ lt. inl (inr (past_deeper j s jl sl x sound.well z (subst (λ (y : Search). Past y z) (stepped_deeper j s x f lt) past))))
         (λ full. ⊎_elim (λ l. inl (inr l)) (λ a. inr (held_passes f full a))
-        (past_from x.decided x.present z (Some x.present) (subst (λ (y : Search). Past y z) (stepped_held j s x f full) past)))
-        (cases_lt x.decided j.count))
+        (past_from x.depth x.present z (Some x.present) (subst (λ (y : Search). Past y z) (stepped_held j s x f full) past)))
+        (cases_lt x.depth j.count))
         (cases_Bool (dismisses j s x))
 
   in_order_at : (x : Search) → Well j.count x → (y z : ℕ) → BeforeAt j s x z → Earlier y z → BeforeAt j s x y
   in_order_at x well y z (inl ended) e = inl ended
-  in_order_at x well y z (inr l) e = inr (precedes_lies j.count x jl.few well y (precedes_earlier x.decided x.present y z (lies_precedes j.count x jl.few well z l) e))
+  in_order_at x well y z (inr l) e = inr (precedes_lies j.count x jl.few well y (precedes_earlier x.depth x.present y z (lies_precedes j.count x jl.few well z l) e))
 
   pub search_in_order : SearchInOrder j s
   search_in_order = record {

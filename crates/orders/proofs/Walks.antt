@@ -8,31 +8,31 @@ use Rattle.orders.specs.Searches.{dismissed, dismisses, stepped, Steps, none, mo
 
 -- the next mark decided absent
 abbrev pub deeper : Search → Search
-deeper x = record { decided = x.decided + 1; present = x.present; held = x.held; finished = false }
+deeper x = record { depth = x.depth + 1; present = x.present; held = x.held; finished = false }
 
 module _ {C : Type 0} (j : Judging) (s : Scaling C) where
-  pub stepped_dismissed : (x : Search) → dismisses j s x ≡ true → stepped j s x ≡ dismissed x.decided x.present x.held
+  pub stepped_dismissed : (x : Search) → dismisses j s x ≡ true → stepped j s x ≡ dismissed x.depth x.present x.held
   stepped_dismissed x t = cond-true _ _ _ t
 
-  pub stepped_held : (x : Search) → dismisses j s x ≡ false → j.count ≤ x.decided → stepped j s x ≡ dismissed x.decided x.present (Some x.present)
-  stepped_held x f le = cond-false _ _ _ f ∙ cond-true _ _ _ (le-leb j.count x.decided le)
+  pub stepped_held : (x : Search) → dismisses j s x ≡ false → j.count ≤ x.depth → stepped j s x ≡ dismissed x.depth x.present (Some x.present)
+  stepped_held x f le = cond-false _ _ _ f ∙ cond-true _ _ _ (le-leb j.count x.depth le)
 
-  pub stepped_deeper : (x : Search) → dismisses j s x ≡ false → x.decided < j.count → stepped j s x ≡ deeper x
-  stepped_deeper x f lt = cond-false _ _ _ f ∙ cond-false _ _ _ (lt-leb j.count x.decided lt)
+  pub stepped_deeper : (x : Search) → dismisses j s x ≡ false → x.depth < j.count → stepped j s x ≡ deeper x
+  stepped_deeper x f lt = cond-false _ _ _ f ∙ cond-false _ _ _ (lt-leb j.count x.depth lt)
 
   -- what holds of each of the three
   pub step_cases : (x : Search) (P : Search → Type 0)
-      → (dismisses j s x ≡ true → P (dismissed x.decided x.present x.held))
-      → (dismisses j s x ≡ false → j.count ≤ x.decided → P (dismissed x.decided x.present (Some x.present)))
-      → (dismisses j s x ≡ false → x.decided < j.count → P (deeper x))
+      → (dismisses j s x ≡ true → P (dismissed x.depth x.present x.held))
+      → (dismisses j s x ≡ false → j.count ≤ x.depth → P (dismissed x.depth x.present (Some x.present)))
+      → (dismisses j s x ≡ false → x.depth < j.count → P (deeper x))
       → P (stepped j s x)
   step_cases x P dismiss hold decide =
-      cond_both (dismisses j s x) (dismissed x.decided x.present x.held)
-      (cond (leb j.count x.decided) (dismissed x.decided x.present (Some x.present)) (deeper x)) P
+      cond_both (dismisses j s x) (dismissed x.depth x.present x.held)
+      (cond (leb j.count x.depth) (dismissed x.depth x.present (Some x.present)) (deeper x)) P
       dismiss
-      (λ f. cond_both (leb j.count x.decided) (dismissed x.decided x.present (Some x.present)) (deeper x) P
-      (λ t. hold f (leb-true j.count x.decided t))
-      (λ g. decide f (leb-false j.count x.decided g)))
+      (λ f. cond_both (leb j.count x.depth) (dismissed x.depth x.present (Some x.present)) (deeper x) P
+      (λ t. hold f (leb-true j.count x.depth t))
+      (λ g. decide f (leb-false j.count x.depth g)))
 
   -- ---- steps one after another
 

@@ -22,10 +22,10 @@ Keeps [] z = Unit {0}
 Keeps (a ∷ acts) z = KeepsAct a z × Keeps acts z
 
 -- the act pins or bars the mark
-abbrev pub names : ℕ → Act → Bool
-names mark (Pin m) = mark == m
-names mark (Bar m) = mark == m
-names mark (Strike z) = false
+abbrev pub pins_or_bars : ℕ → Act → Bool
+pins_or_bars mark (Pin m) = mark == m
+pins_or_bars mark (Bar m) = mark == m
+pins_or_bars mark (Strike z) = false
 
 -- the act strikes the sheet
 abbrev pub strikes : ℕ → Act → Bool
@@ -33,13 +33,14 @@ strikes sheet (Pin m) = false
 strikes sheet (Bar m) = false
 strikes sheet (Strike z) = sheet == z
 
--- the part-sheet has the pinned mark absent or the barred one present, or is full and its sheet is the struck one
-abbrev pub breaks : ℕ → ℕ → Act → Bool
-breaks present absent (Pin mark) = has absent mark
-breaks present absent (Bar mark) = has present mark
-breaks present absent (Strike sheet) = present == sheet && full present absent
+-- the part-sheet has the pinned mark absent or the barred one present, or is full and its sheet is the struck one: no sheet
+-- within it keeps the act
+abbrev pub is_broken_by : ℕ → ℕ → Act → Bool
+is_broken_by present absent (Pin mark) = has absent mark
+is_broken_by present absent (Bar mark) = has present mark
+is_broken_by present absent (Strike sheet) = present == sheet && full present absent
 
--- the act names only a mark that there is
+-- the pinned or barred mark is one of the 64; a struck sheet can be any word
 abbrev pub in_range : Act → Bool
 in_range (Pin mark) = nat_lt mark width
 in_range (Bar mark) = nat_lt mark width
@@ -50,5 +51,5 @@ abbrev pub under : Judging → List Act → Judging
 under j acts = record {
   count = j.count;
   allows = λ z. j.allows z × Keeps acts z;
-  dead = λ p a. j.dead p a || list_any (breaks p a) acts;
+  dead = λ p a. j.dead p a || list_any (is_broken_by p a) acts;
 }

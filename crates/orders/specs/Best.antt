@@ -17,9 +17,9 @@ module _ {C : Type 0} (j : Judging) (s : Scaling C) where
   Best None = (z : ℕ) → j.allows z → ⊥
   Best (Some answer) = Cheapest answer.0 answer.1
 
--- the second answer costs no less than the first; no sheet ranks above every cost
-abbrev pub NoLess : {C : Type 0} → Scaling C → Option (ℕ × C) → Option (ℕ × C) → Type 0
-NoLess s None None = Unit {0}
-NoLess s None (Some b) = ⊥
-NoLess s (Some a) None = Unit {0}
-NoLess s (Some a) (Some b) = s.below b.1 a.1 ≡ false
+-- answer a costs at most what answer b does; no sheet ranks above every cost
+abbrev pub CostsAtMost : {C : Type 0} → Scaling C → Option (ℕ × C) → Option (ℕ × C) → Type 0
+CostsAtMost s None None = Unit {0}
+CostsAtMost s None (Some b) = ⊥
+CostsAtMost s (Some a) None = Unit {0}
+CostsAtMost s (Some a) (Some b) = s.below b.1 a.1 ≡ false

@@ -8,13 +8,17 @@ use Rattle.orders.specs.Searches.{start, present_at, absent_at, Steps, Walked, E
 use Rattle.orders.specs.Best.{Best}
 
 module _ {C : Type 0} (j : Judging) (s : Scaling C) where
-  -- an advance by n takes the steps, and shows the place that they lead to and the sheet that is held there
+  -- what is shown of a search: whether it is finished, its place, and the sheet that it holds with its cost
+  pub record Showing (x : Search) (p : Progress C) : Type 0 where
+    pub finished : p.finished ≡ x.finished
+    pub present : p.place.present ≡ present_at j.count x
+    pub absent : p.place.absent ≡ absent_at j.count x
+    pub held : p.held ≡ priced s x.held
+
+  -- an advance by n takes the steps, and shows the search that they lead to
   pub record Advanced (n : ℕ) (before : Search) (r : Progress C) (after : Search) : Type 0 where
-    pub walked : Walked j s n before r.taken after
-    pub finished : r.finished ≡ after.finished
-    pub present : r.place.present ≡ present_at j.count after
-    pub absent : r.place.absent ≡ absent_at j.count after
-    pub held : r.held ≡ priced s after.held
+    pub walked : Walked j s n before r.steps after
+    pub shown : Showing after r
 
   -- a search has come to the place from the start
   abbrev pub Reached : Search → Type 0
@@ -26,4 +30,5 @@ module _ {C : Type 0} (j : Judging) (s : Scaling C) where
     pub last : Search
     pub ended : Ended j s before last
     pub its_held : held ≡ last.held
+    -- that it did, `conduct` shows; a caller of `settle` must show it himself
     pub best : Reached before → Best j s (priced s held)

@@ -5,7 +5,7 @@ use Rattle.orders.specs.declared.acts.Act.{Act}
 use Rattle.orders.specs.declared.acts.Act.TheVariants.{Pin, Bar, Strike}
 use Rattle.orders.specs.declared.acts.Refusal.{Refusal}
 use Rattle.orders.specs.declared.acts.Refusal.TheVariants.{MarkRange, MarkTaken, SheetStruck, DocketFull, DocketEmpty}
-use Rattle.orders.specs.Acts.{most_acts, names, strikes}
+use Rattle.orders.specs.Acts.{most_acts, pins_or_bars, strikes}
 
 -- a mark of the act is not below the count n
 abbrev pub beyond : ℕ → Act → Bool
@@ -14,10 +14,10 @@ beyond n (Bar mark) = nat_le n mark
 beyond n (Strike sheet) = not (nat_lt sheet (2 ^ n))
 
 -- the mark is already pinned or barred
-abbrev pub mark_taken : List Act → Act → Bool
-mark_taken acts (Pin mark) = list_any (names mark) acts
-mark_taken acts (Bar mark) = list_any (names mark) acts
-mark_taken acts (Strike sheet) = false
+abbrev pub mark_named : List Act → Act → Bool
+mark_named acts (Pin mark) = list_any (pins_or_bars mark) acts
+mark_named acts (Bar mark) = list_any (pins_or_bars mark) acts
+mark_named acts (Strike sheet) = false
 
 -- the sheet is already struck
 abbrev pub sheet_struck : List Act → Act → Bool
@@ -28,7 +28,7 @@ sheet_struck acts (Strike sheet) = list_any (strikes sheet) acts
 -- the refusal applies to a pin, bar or strike, by the count n and the acts that stand
 abbrev pub applies : ℕ → List Act → Act → Refusal → Bool
 applies n acts a MarkRange = beyond n a
-applies n acts a MarkTaken = mark_taken acts a
+applies n acts a MarkTaken = mark_named acts a
 applies n acts a SheetStruck = sheet_struck acts a
 applies n acts a DocketFull = nat_le most_acts (length acts)
 applies n acts a DocketEmpty = false
@@ -53,14 +53,14 @@ unless (Some why) acts more = acts
 unless None acts more = more
 
 -- the acts after a pin, bar or strike: unless it is refused, it is added at the end
-abbrev pub taken : ℕ → List Act → Act → List Act
-taken n acts a = unless (refused_act n acts a) acts (acts ++ (a ∷ []))
+abbrev pub after_act : ℕ → List Act → Act → List Act
+after_act n acts a = unless (refused_act n acts a) acts (acts ++ (a ∷ []))
 
 -- the acts after an undo: the last is taken off
-abbrev pub undone : List Act → List Act
-undone [] = []
-undone (a ∷ []) = []
-undone (a ∷ (b ∷ rest)) = a ∷ undone (b ∷ rest)
+abbrev pub after_undo : List Act → List Act
+after_undo [] = []
+after_undo (a ∷ []) = []
+after_undo (a ∷ (b ∷ rest)) = a ∷ after_undo (b ∷ rest)
 
 -- what a call on the acts returns: how many then stand, or by what it is refused
 abbrev pub returned : Option Refusal → List Act → Result ℕ Refusal

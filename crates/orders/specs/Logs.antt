@@ -13,33 +13,35 @@ use Rattle.orders.specs.declared.calls.Answer.TheVariants.{Stands, Refused, Move
 use Rattle.orders.specs.declared.calls.Event.{Event}
 use Rattle.orders.specs.Search.{Search}
 use Rattle.orders.specs.Acts.{under}
-use Rattle.orders.specs.Dockets.{refused_act, undo_refused, taken, undone, returned}
-use Rattle.orders.specs.Searches.{start, present_at, absent_at, Steps, priced}
+use Rattle.orders.specs.Dockets.{refused_act, undo_refused, after_act, after_undo, returned}
+use Rattle.orders.specs.Searches.{start, Steps, priced}
 use Rattle.orders.specs.Places.{Before}
-use Rattle.orders.specs.Best.{Best, NoLess}
-use Rattle.orders.specs.Stages.{marking, allowed}
+use Rattle.orders.specs.Best.{Best, CostsAtMost}
+use Rattle.orders.specs.Calls.{Showing}
+use Rattle.orders.specs.Stages.{marking, calls_had}
 
 -- ---- the docket, from the count n and the calls alone
 
--- fed one call more
-abbrev pub fed : ℕ → List Act → Call → List Act
-fed n acts (Pin mark) = taken n acts (act.Pin mark)
-fed n acts (Bar mark) = taken n acts (act.Bar mark)
-fed n acts (Strike sheet) = taken n acts (act.Strike sheet)
-fed n acts Undo = undone acts
-fed n acts Seek = acts
-fed n acts (Advance k) = acts
-fed n acts Settle = acts
-fed n acts Withdraw = acts
-fed n acts Reopen = acts
+-- the acts after one call more
+abbrev pub after_call : ℕ → List Act → Call → List Act
+after_call n acts (Pin mark) = after_act n acts (act.Pin mark)
+after_call n acts (Bar mark) = after_act n acts (act.Bar mark)
+after_call n acts (Strike sheet) = after_act n acts (act.Strike sheet)
+after_call n acts Undo = after_undo acts
+after_call n acts Seek = acts
+after_call n acts (Advance k) = acts
+after_call n acts Settle = acts
+after_call n acts Withdraw = acts
+after_call n acts Reopen = acts
 
-abbrev pub fed_all : ℕ → List Act → List Call → List Act
-fed_all n acts [] = acts
-fed_all n acts (c ∷ calls) = fed_all n (fed n acts c) calls
+-- the acts after these calls
+abbrev pub after_calls : ℕ → List Act → List Call → List Act
+after_calls n acts [] = acts
+after_calls n acts (c ∷ calls) = after_calls n (after_call n acts c) calls
 
 -- the acts that stand after the calls
 abbrev pub docket : ℕ → List Call → List Act
-docket n calls = fed_all n [] calls
+docket n calls = after_calls n [] calls
 
 -- ---- answers that the docket decides
 
@@ -50,10 +52,10 @@ answer_of (Err why) = Refused why
 
 -- the answer to each call other than advance and settle, by the count n and the acts that stood before it
 abbrev pub ByDocket : {C : Type 0} → ℕ → List Act → Call → Answer C → Type 0
-ByDocket n acts (Pin mark) r = r ≡ answer_of (returned (refused_act n acts (act.Pin mark)) (fed n acts (Pin mark)))
-ByDocket n acts (Bar mark) r = r ≡ answer_of (returned (refused_act n acts (act.Bar mark)) (fed n acts (Bar mark)))
-ByDocket n acts (Strike sheet) r = r ≡ answer_of (returned (refused_act n acts (act.Strike sheet)) (fed n acts (Strike sheet)))
-ByDocket n acts Undo r = r ≡ answer_of (returned (undo_refused acts) (fed n acts Undo))
+ByDocket n acts (Pin mark) r = r ≡ answer_of (returned (refused_act n acts (act.Pin mark)) (after_call n acts (Pin mark)))
+ByDocket n acts (Bar mark) r = r ≡ answer_of (returned (refused_act n acts (act.Bar mark)) (after_call n acts (Bar mark)))
+ByDocket n acts (Strike sheet) r = r ≡ answer_of (returned (refused_act n acts (act.Strike sheet)) (after_call n acts (Strike sheet)))
+ByDocket n acts Undo r = r ≡ answer_of (returned (undo_refused acts) (after_call n acts Undo))
 ByDocket n acts Seek r = r ≡ Moved
 ByDocket n acts (Advance k) r = Unit {0}
 ByDocket n acts Settle r = Unit {0}
@@ -77,28 +79,29 @@ abbrev pub steps_in : {C : Type 0} → Answer C → ℕ
 steps_in (Stands count) = 0
 steps_in (Refused why) = 0
 steps_in Moved = 0
-steps_in (Shown p) = p.taken
+steps_in (Shown p) = p.steps
 steps_in (Final answer) = 0
 
--- the steps of the search that goes on, after one event more
-abbrev pub spent_more : {C : Type 0} → ℕ → Call → Answer C → ℕ
-spent_more n (Pin mark) r = n
-spent_more n (Bar mark) r = n
-spent_more n (Strike sheet) r = n
-spent_more n Undo r = n
-spent_more n Seek r = 0
-spent_more n (Advance k) r = n + steps_in r
-spent_more n Settle r = n
-spent_more n Withdraw r = n
-spent_more n Reopen r = n
+-- the number of steps, n so far, after one event more
+abbrev pub steps_after : {C : Type 0} → ℕ → Call → Answer C → ℕ
+steps_after n (Pin mark) r = n
+steps_after n (Bar mark) r = n
+steps_after n (Strike sheet) r = n
+steps_after n Undo r = n
+steps_after n Seek r = 0
+steps_after n (Advance k) r = n + steps_in r
+steps_after n Settle r = n
+steps_after n Withdraw r = n
+steps_after n Reopen r = n
 
-abbrev pub spent_from : {C : Type 0} → ℕ → List (Event C) → ℕ
-spent_from n [] = n
-spent_from n (e ∷ log) = spent_from (spent_more n e.call e.answer) log
+-- the same after the events of a log
+abbrev pub steps_from : {C : Type 0} → ℕ → List (Event C) → ℕ
+steps_from n [] = n
+steps_from n (e ∷ log) = steps_from (steps_after n e.call e.answer) log
 
--- the steps since the last seek of the log
-abbrev pub spent : {C : Type 0} → List (Event C) → ℕ
-spent log = spent_from 0 log
+-- how many steps the advances after the last seek of the log took; a settling's own are not counted
+abbrev pub steps_so_far : {C : Type 0} → List (Event C) → ℕ
+steps_so_far log = steps_from 0 log
 
 -- each event is an advance
 abbrev pub OnlyAdvances : {C : Type 0} → List (Event C) → Type 0
@@ -112,7 +115,8 @@ abbrev pub AllowedShown : {C : Type 0} → Judging → Scaling C → Option (ℕ
 AllowedShown j s None = Unit {0}
 AllowedShown j s (Some shown) = j.allows shown.0 × (shown.1 ≡ s.cost shown.0)
 
--- the sheet z does not cost less than what is shown; where none is shown, there is no such sheet
+-- z costs no less than what is shown; where nothing is shown this is false, so `none_cheaper` then says that no such sheet
+-- exists
 abbrev pub NotCheaper : {C : Type 0} → Scaling C → Option (ℕ × C) → ℕ → Type 0
 NotCheaper s None z = ⊥
 NotCheaper s (Some shown) z = s.below (s.cost z) shown.1 ≡ false
@@ -122,19 +126,16 @@ module _ {C : Type 0} (j : Judging) (s : Scaling C) where
   pub record Shows (n before : ℕ) (p : Progress C) : Type 0 where
     -- the defined steps lead to this search
     pub reached : Search
-    pub steps : Steps j s start (before + p.taken) reached
+    pub steps : Steps j s start (before + p.steps) reached
     -- they are n, or those that remain if fewer
-    pub few : p.taken ≤ n
-    pub all : p.taken < n → p.finished ≡ true
-    -- shown are whether it is finished, its place, and the sheet that it holds with its cost
-    pub finished : p.finished ≡ reached.finished
-    pub present : p.place.present ≡ present_at j.count reached
-    pub absent : p.place.absent ≡ absent_at j.count reached
-    pub held : p.held ≡ priced s reached.held
-    -- that sheet is allowed
+    pub few : p.steps ≤ n
+    pub all : p.steps < n → p.finished ≡ true
+    -- this search is shown
+    pub shown : Showing j s reached p
+    -- the sheet that it holds is allowed
     pub allowed_held : AllowedShown j s p.held
     -- no allowed sheet before the place costs less than it; with no sheet shown, none lies there
-    pub covered : (z : ℕ) → j.allows z → Before p.finished p.place.present p.place.absent z → NotCheaper s p.held z
+    pub none_cheaper : (z : ℕ) → j.allows z → Before p.finished p.place.present p.place.absent z → NotCheaper s p.held z
 
   -- what a settling answers, `before` steps after its search began
   pub record Settles (before : ℕ) (answer : Option (ℕ × C)) : Type 0 where
@@ -152,11 +153,11 @@ module _ {C : Type 0} (j : Judging) (s : Scaling C) where
 
 -- ---- the acts of two settlings
 
--- the act is one of these, in whatever place
+-- the act is one of these (order and repetition do not count)
 abbrev pub Among : Act → List Act → Type 0
 Among a acts = (before : List Act) × (after : List Act) × (acts ≡ before ++ (a ∷ after))
 
--- every act that stands at the one also stands at the other
+-- every act of the first list is also one of the second (order and repetition do not count)
 abbrev pub Included : List Act → List Act → Type 0
 Included few many = (a : Act) → Among a few → Among a many
 
@@ -170,24 +171,24 @@ module _ {C : Type 0} (j : Judging) (s : Scaling C) where
   -- the log of an order over the judge and the scale, from its beginning, by these calls and with so much room
   pub record Kept (room : ℕ) (calls : List Call) (log : List (Event C)) : Type 0 where
     -- the calls are answered, up to the first that its stage does not have or to the end of the room
-    pub answered : calls_of log ≡ take (min (allowed marking calls) room) calls
+    pub answered : calls_of log ≡ take (min (calls_had marking calls) room) calls
     -- pin, bar, strike and undo are answered by the docket; seek, withdraw and reopen lead to another stage
     pub decided : (c : Call) (r : Answer C) (e : EventIn log c r) → ByDocket j.count (acts_at e) c r
     -- a settling ends the search, on the cheapest sheet that is allowed and keeps the acts, or on no sheet
-    pub settlings : (r : Answer C) (e : EventIn log Settle r) → (answer : Option (ℕ × C)) × (r ≡ Final answer) × Settles (under j (acts_at e)) s (spent e.before) answer
+    pub settlings : (r : Answer C) (e : EventIn log Settle r) → (answer : Option (ℕ × C)) × (r ≡ Final answer) × Settles (under j (acts_at e)) s (steps_so_far e.before) answer
     -- an advance takes the defined steps, and leaves nothing cheaper before the place
-    pub advances : (n : ℕ) (r : Answer C) (e : EventIn log (Advance n) r) → (p : Progress C) × (r ≡ Shown p) × Shows (under j (acts_at e)) s n (spent e.before) p
+    pub advances : (n : ℕ) (r : Answer C) (e : EventIn log (Advance n) r) → (p : Progress C) × (r ≡ Shown p) × Shows (under j (acts_at e)) s n (steps_so_far e.before) p
     -- in one search a cost that is shown never rises
     pub falling : (n k : ℕ) (p q : Progress C) (before middle after : List (Event C)) → OnlyAdvances middle →
         log ≡ before ++ (record { call = Advance n; answer = Shown p } ∷ (middle ++ (record { call = Advance k; answer = Shown q } ∷ after))) →
-        NoLess s q.held p.held
+        CostsAtMost s q.held p.held
     -- nor does its settled sheet cost more than one that was shown
     pub ending : (n : ℕ) (p : Progress C) (answer : Option (ℕ × C)) (before middle after : List (Event C)) → OnlyAdvances middle →
         log ≡ before ++ (record { call = Advance n; answer = Shown p } ∷ (middle ++ (record { call = Settle; answer = Final answer } ∷ after))) →
-        NoLess s answer p.held
+        CostsAtMost s answer p.held
     -- of two settlings, where every act that stands at the one also stands at the other, the other costs no less
-    pub dearer : (x y : Option (ℕ × C)) (e : EventIn log Settle (Final x)) (f : EventIn log Settle (Final y)) →
-        Included (acts_at e) (acts_at f) → NoLess s x y
+    pub more_acts : (x y : Option (ℕ × C)) (e : EventIn log Settle (Final x)) (f : EventIn log Settle (Final y)) →
+        Included (acts_at e) (acts_at f) → CostsAtMost s x y
 
   -- such a log was added to what stood before
   pub record Conducted (room : ℕ) (calls : List Call) (before after : List (Event C)) : Type 0 where

@@ -1,9 +1,11 @@
 -- Where a search stands.
 use Rattle.std.specs.Prelude.{ℕ, Bool, Option}
 
--- the place decides the first `decided` marks, of which those in `present` are present and the others absent
 pub record Search : Type 0 where
-  pub decided : ℕ
+  -- the place decides the first `depth` marks, of which those in `present` are present and the others absent
+  pub depth : ℕ
   pub present : ℕ
+  -- the sheet that is held, if there is one
   pub held : Option ℕ
+  -- no step remains
   pub finished : Bool

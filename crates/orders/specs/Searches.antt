@@ -10,7 +10,7 @@ use Rattle.orders.specs.Search.{Search}
 
 -- a search starts with nothing decided, and holds no sheet
 abbrev pub start : Search
-start = record { decided = 0; present = 0; held = None; finished = false }
+start = record { depth = 0; present = 0; held = None; finished = false }
 
 -- the sheet of the marks below k
 abbrev pub first_marks : ℕ → ℕ
@@ -18,12 +18,13 @@ first_marks k = 2 ^ min k width - 1
 
 -- the marks that the place decides: the first ones, and those from the count n upward
 abbrev pub decided_at : ℕ → Search → ℕ
-decided_at n x = bit_or (first_marks x.decided) (others (first_marks n))
+decided_at n x = bit_or (first_marks x.depth) (others (first_marks n))
 
--- the place as a part-sheet: of the marks that it decides, those that are present and those that are absent
+-- the place as a part-sheet: of the marks that it decides, those that are present
 unfoldable pub present_at : ℕ → Search → ℕ
 present_at n x = bit_and x.present (decided_at n x)
 
+-- and those that are absent
 unfoldable pub absent_at : ℕ → Search → ℕ
 absent_at n x = bit_and (others x.present) (decided_at n x)
 
@@ -32,14 +33,14 @@ absent_at n x = bit_and (others x.present) (decided_at n x)
 -- dismissing the place that decides k marks, of which those of z are present: the trailing present decisions are dropped,
 -- and the last absent one is turned into present; where no decision is left, the search is finished
 abbrev pub dismissed : ℕ → ℕ → Option ℕ → Search
-dismissed zero z held = record { decided = 0; present = 0; held = held; finished = true }
+dismissed zero z held = record { depth = 0; present = 0; held = held; finished = true }
 dismissed (suc k) z held =
-    if has z k then dismissed k (z - 2 ^ k) held else record { decided = suc k; present = z + 2 ^ k; held = held; finished = false }
+    if has z k then dismissed k (z - 2 ^ k) held else record { depth = suc k; present = z + 2 ^ k; held = held; finished = false }
 
 -- a sheet is held, and the floor is not below its cost
-abbrev pub too_dear : {C : Type 0} → Scaling C → Option ℕ → C → Bool
-too_dear s None floor = false
-too_dear s (Some h) floor = not (s.below floor (s.cost h))
+abbrev pub floor_not_below : {C : Type 0} → Scaling C → Option ℕ → C → Bool
+floor_not_below s None floor = false
+floor_not_below s (Some h) floor = not (s.below floor (s.cost h))
 
 module _ {C : Type 0} (j : Judging) (s : Scaling C) where
   -- the judge calls the place dead
@@ -47,20 +48,20 @@ module _ {C : Type 0} (j : Judging) (s : Scaling C) where
   dead_at x = j.dead (present_at j.count x) (absent_at j.count x)
 
   -- a sheet is held, and the floor of the place is not below its cost
-  abbrev pub dear_at : Search → Bool
-  dear_at x = too_dear s x.held (s.floor (present_at j.count x) (absent_at j.count x))
+  abbrev pub floor_not_below_at : Search → Bool
+  floor_not_below_at x = floor_not_below s x.held (s.floor (present_at j.count x) (absent_at j.count x))
 
   -- the place is dismissed at once
   abbrev pub dismisses : Search → Bool
-  dismisses x = dead_at x || dear_at x
+  dismisses x = dead_at x || floor_not_below_at x
 
   -- one step: the place is dismissed; or it is full, its sheet is held, and it is dismissed; or the next mark is decided
-  -- absent
+  -- absent (in a search that began at the start, `present` has no mark from the count upward, so it is that sheet)
   abbrev pub stepped : Search → Search
   stepped x =
-      if dismisses x then dismissed x.decided x.present x.held
-      else if nat_le j.count x.decided then dismissed x.decided x.present (Some x.present)
-      else record { decided = x.decided + 1; present = x.present; held = x.held; finished = false }
+      if dismisses x then dismissed x.depth x.present x.held
+      else if nat_le j.count x.depth then dismissed x.depth x.present (Some x.present)
+      else record { depth = x.depth + 1; present = x.present; held = x.held; finished = false }
 
   -- n steps, each from a place that is not finished
   pub data Steps : Search → ℕ → Search → Type 0 where

@@ -3,6 +3,7 @@ use Rattle.std.specs.Prelude.{ℕ, zero, suc, Bool, true, false, if◌then◌els
 use Rattle.orders.specs.declared.calls.Call.{Call}
 use Rattle.orders.specs.declared.calls.Call.TheVariants.{Pin, Bar, Strike, Undo, Seek, Advance, Settle, Withdraw, Reopen}
 
+-- where an order stands: its acts may change, its search goes on, or its search has ended
 pub data Stage : Type 0 where
   marking : Stage
   seeking : Stage
@@ -32,6 +33,7 @@ leads_to Settle = settled
 leads_to Withdraw = marking
 leads_to Reopen = marking
 
+-- the two stages are the same
 abbrev pub same_stage : Stage → Stage → Bool
 same_stage marking marking = true
 same_stage marking seeking = false
@@ -44,6 +46,6 @@ same_stage settled seeking = false
 same_stage settled settled = true
 
 -- how many of the calls, from the first on, their stages have
-abbrev pub allowed : Stage → List Call → ℕ
-allowed stage [] = zero
-allowed stage (c ∷ calls) = if same_stage stage (stage_of c) then suc (allowed (leads_to c) calls) else zero
+abbrev pub calls_had : Stage → List Call → ℕ
+calls_had stage [] = zero
+calls_had stage (c ∷ calls) = if same_stage stage (stage_of c) then suc (calls_had (leads_to c) calls) else zero

@@ -15,10 +15,10 @@ use Rattle.orders.specs.Acts.{under}
 use Rattle.orders.specs.Searches.{start, Ended, priced}
 use Rattle.orders.specs.Calls.{Advanced}
 use Rattle.orders.specs.Stages.{Stage, marking, seeking, settled, stage_of, leads_to, same_stage}
-use Rattle.orders.specs.Logs.{fed, ByDocket}
+use Rattle.orders.specs.Logs.{after_call, ByDocket}
 use Rattle.orders.specs.Models.{acts_of}
 
--- the stage of an order, the acts that stand, and its search; where it does not seek, the start of one
+-- the stage of an order, the acts that stand, and its search; where the order does not seek: `start`
 pub record State : Type 0 where
   pub stage : Stage
   pub acts : List Act
@@ -26,37 +26,40 @@ pub record State : Type 0 where
 
 module _ {C : Type 0} (j : Judging) (s : Scaling C) where
   -- what the call does to the search of an order at t, and what it says of it
-  abbrev pub Searches : State → Call → Answer C → State → Type 0
-  Searches t (call.Pin mark) r u = Unit {0}
-  Searches t (call.Bar mark) r u = Unit {0}
-  Searches t (call.Strike sheet) r u = Unit {0}
-  Searches t call.Undo r u = Unit {0}
-  Searches t call.Seek r u = u.search ≡ start
-  Searches t (call.Advance n) r u = (p : Progress C) × (r ≡ Shown p) × Advanced (under j t.acts) s n t.search p u.search
-  Searches t call.Settle r u = (last : Search) × (r ≡ Final (priced s last.held)) × Ended (under j t.acts) s t.search last
-  Searches t call.Withdraw r u = Unit {0}
-  Searches t call.Reopen r u = Unit {0}
+  abbrev pub SearchTurn : State → Call → Answer C → State → Type 0
+  SearchTurn t (call.Pin mark) r u = Unit {0}
+  SearchTurn t (call.Bar mark) r u = Unit {0}
+  SearchTurn t (call.Strike sheet) r u = Unit {0}
+  SearchTurn t call.Undo r u = Unit {0}
+  SearchTurn t call.Seek r u = u.search ≡ start
+  SearchTurn t (call.Advance n) r u = (p : Progress C) × (r ≡ Shown p) × Advanced (under j t.acts) s n t.search p u.search
+  SearchTurn t call.Settle r u = (last : Search) × (r ≡ Final (priced s last.held)) × Ended (under j t.acts) s t.search last
+  SearchTurn t call.Withdraw r u = Unit {0}
+  SearchTurn t call.Reopen r u = Unit {0}
 
   -- the stage of t has the call c, which is answered r and leads to u
   pub record Turn (t : State) (c : Call) (r : Answer C) (u : State) : Type 0 where
     pub from : t.stage ≡ stage_of c
     pub to : u.stage ≡ leads_to c
-    pub acts : u.acts ≡ fed j.count t.acts c
+    pub acts : u.acts ≡ after_call j.count t.acts c
     pub decided : ByDocket j.count t.acts c r
-    pub searches : Searches t c r u
+    pub searches : SearchTurn t c r u
 
 -- ---- the orders of the code
 
+-- the stage of the order, its acts and its search
 abbrev pub state_of : {J S : Type 0} → Order J S → State
 state_of (Marking m) = record { stage = marking; acts = acts_of m.acts; search = start }
 state_of (Seeking m) = record { stage = seeking; acts = acts_of m.marking.acts; search = m.search }
 state_of (Settled m) = record { stage = settled; acts = acts_of m.marking.acts; search = start }
 
+-- its judge, below the acts
 abbrev pub judge_of : {J S : Type 0} → Order J S → J
 judge_of (Marking m) = m.acts.judge
 judge_of (Seeking m) = m.marking.acts.judge
 judge_of (Settled m) = m.marking.acts.judge
 
+-- its scale
 abbrev pub scale_of : {J S : Type 0} → Order J S → S
 scale_of (Marking m) = m.scale
 scale_of (Seeking m) = m.marking.scale

@@ -13,6 +13,7 @@ const MOST_ACTS: usize = 32;
 // memory.
 #[derive(Drop)]
 pub(crate) struct ActList {
+    // The first `len` of these are the acts of the list.
     places: [Act; MOST_ACTS],
     len: usize,
 }
@@ -39,12 +40,14 @@ impl ActList {
         }
     }
 
+    // The acts, in order.
     pub(crate) fn as_slice(&self) -> &[Act]
         ensures { result.now ≡ self.now }
     {
         &self.places[0..self.len]
     }
 
+    // How many acts there are.
     pub(crate) fn len(&self) -> u8
         ensures { result ≡ length self.now }
     {

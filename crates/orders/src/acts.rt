@@ -1,6 +1,6 @@
 // What an order is held to, and why a call is refused.
 ghost use Rattle.std.specs.Prelude.{◌≡◌};
-ghost use Rattle.orders.specs.Acts.{names, strikes, breaks};
+ghost use Rattle.orders.specs.Acts.{pins_or_bars, strikes, is_broken_by};
 ghost use Rattle.orders.specs.Numbers.{number};
 
 use sheets::{Mark, PartSheet, Sheet, has_mark};
@@ -18,8 +18,8 @@ pub enum Act {
 
 impl Act {
     // It pins or bars the mark.
-    pub(crate) fn names(self, mark: Mark) -> bool
-        ensures { result ≡ names mark self }
+    pub(crate) fn pins_or_bars(self, mark: Mark) -> bool
+        ensures { result ≡ pins_or_bars mark self }
     {
         self == Act::Pin(mark) || self == Act::Bar(mark)
     }
@@ -31,9 +31,10 @@ impl Act {
         self == Act::Strike(sheet)
     }
 
-    // The part-sheet has the pinned mark absent or the barred one present, or stands for the struck sheet.
-    pub(crate) fn breaks(self, part: PartSheet) -> bool
-        ensures { result ≡ breaks part.present part.absent self }
+    // The part-sheet has the pinned mark absent or the barred one present, or stands for the struck sheet: no sheet within it
+    // keeps the act.
+    pub(crate) fn is_broken_by(self, part: PartSheet) -> bool
+        ensures { result ≡ is_broken_by part.present part.absent self }
     {
         match self {
             Act::Pin(mark) => has_mark(part.absent(), mark),

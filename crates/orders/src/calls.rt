@@ -2,20 +2,26 @@
 use crate::acts::Refusal;
 use sheets::{Mark, PartSheet, Sheet};
 
-// Each stage of an order has its own calls.
+// A call on an order. Each stage has its own calls.
 #[derive(Clone, Copy, Debug, PartialEq, Eq)]
 pub enum Call {
-    // Of a marking order.
+    // Marking: the sheets are to have the mark.
     Pin(Mark),
+    // Marking: the sheets are to lack the mark.
     Bar(Mark),
+    // Marking: the sheet is not to be this one.
     Strike(Sheet),
+    // Marking: takes the last act off.
     Undo,
+    // Marking: begins a search.
     Seek,
-    // Of a seeking order.
+    // Seeking: takes so many steps, or those that remain if fewer.
     Advance(u16),
+    // Seeking: takes the steps that remain.
     Settle,
+    // Seeking: leaves the search.
     Withdraw,
-    // Of a settled order.
+    // Settled: leaves the sheet.
     Reopen,
 }
 
@@ -23,11 +29,12 @@ pub enum Call {
 #[derive(Clone, Copy, Debug, PartialEq, Eq)]
 pub struct Progress<C> {
     // How many steps it took.
-    pub taken: u16,
+    pub steps: u16,
     // Whether the search is finished. The place and the sheet are shown in both cases.
     pub finished: bool,
-    // The place, the sheet that is held, if there is one, and its cost.
+    // The place of the search.
     pub place: PartSheet,
+    // The sheet that is held with its cost, if there is one.
     pub held: Option<(Sheet, C)>,
 }
 

@@ -10,7 +10,9 @@ use sheets::{Judge, PartSheet};
 // Allows what the judge below allows and the acts leave.
 #[derive(Drop)]
 pub struct Acts<J> {
+    // The judge below.
     pub(crate) judge: J,
+    // The acts that stand.
     pub(crate) docket: Docket,
 }
 

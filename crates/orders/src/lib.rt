@@ -12,7 +12,6 @@ mod search;
 mod seeking;
 mod settled;
 mod stage;
-mod standing;
 mod steps;
 mod theorems;
 mod turns;

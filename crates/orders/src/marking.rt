@@ -10,10 +10,13 @@ use crate::search::Search;
 use crate::seeking::Seeking;
 use sheets::{Judge, Mark, Scale, Sheet};
 
-// An order whose acts may still change. Each call on them says that the scale stays, since no type says it of one field.
+// An order whose acts may still change. A call on them returns how many acts then stand, or why it is refused. Each says
+// that the scale stays, since no type says it of one field.
 #[derive(Drop)]
 pub struct Marking<J, S> {
+    // The judge, under the acts that stand.
     pub(crate) acts: Acts<J>,
+    // By which the sheets are compared.
     pub(crate) scale: S,
 }
 
@@ -28,7 +31,7 @@ impl<J: Judge, S: Scale> Marking<J, S> {
         Marking { acts, scale }
     }
 
-    // The sheets are to have the mark. Returns how many acts then stand.
+    // The sheets are to have the mark.
     pub fn pin(&mut self, mark: Mark) -> Result<u8, Refusal>
         ensures acts { Added J.judging self.old.acts (PinAct mark) result self.new.acts }
         ensures scale { self.new.scale ≡ self.old.scale }
@@ -36,7 +39,7 @@ impl<J: Judge, S: Scale> Marking<J, S> {
         self.acts.add(Act::Pin(mark))
     }
 
-    // The sheets are to lack the mark. Returns how many acts then stand.
+    // The sheets are to lack the mark.
     pub fn bar(&mut self, mark: Mark) -> Result<u8, Refusal>
         ensures acts { Added J.judging self.old.acts (BarAct mark) result self.new.acts }
         ensures scale { self.new.scale ≡ self.old.scale }
@@ -44,7 +47,7 @@ impl<J: Judge, S: Scale> Marking<J, S> {
         self.acts.add(Act::Bar(mark))
     }
 
-    // The sheet is not to be this one. Returns how many acts then stand.
+    // The sheet is not to be this one.
     pub fn strike(&mut self, sheet: Sheet) -> Result<u8, Refusal>
         ensures acts { Added J.judging self.old.acts (StrikeAct sheet) result self.new.acts }
         ensures scale { self.new.scale ≡ self.old.scale }
@@ -52,7 +55,7 @@ impl<J: Judge, S: Scale> Marking<J, S> {
         self.acts.add(Act::Strike(sheet))
     }
 
-    // Takes the last act off. Returns how many acts then stand.
+    // Takes the last act off.
     pub fn undo(&mut self) -> Result<u8, Refusal>
         ensures acts { Undone self.old.acts result self.new.acts }
         ensures scale { self.new.scale ≡ self.old.scale }

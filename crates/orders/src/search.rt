@@ -6,13 +6,15 @@ ghost use Rattle.orders.specs.Searches.{start, dismissed, present_at, absent_at}
 use sheets::{PartSheet, Sheet, first_marks, has_mark};
 use std::marker::Model;
 
-// The place decides the first `decided` marks, of which those in `present` are present and the others absent. `finished`
-// is no tag of the other fields: a finished search shows its place and its sheet too.
+// Where a search stands. `finished` is no tag of the other fields: a finished search shows its place and its sheet too.
 #[derive(Clone, Copy, Debug, PartialEq, Eq)]
 pub struct Search {
-    pub(crate) decided: u8,
+    // The place decides the first `depth` marks, of which those in `present` are present and the others absent.
+    pub(crate) depth: u8,
     pub(crate) present: Sheet,
+    // The sheet that is held, if there is one.
     pub(crate) held: Option<Sheet>,
+    // No step remains.
     pub(crate) finished: bool,
 }
 
@@ -20,15 +22,15 @@ pub struct Search {
 impl Model for Search {
     ghost use Rattle.std.specs.Prelude.{◌≤◌};
     ghost use Rattle.sheets.specs.Sheets.{width};
-    ghost use Rattle.orders.specs.Search.{Search as Place};
+    ghost use Rattle.orders.specs.Search.{Search as SearchModel};
 
-    ghost Value = { Place };
+    ghost Value = { SearchModel };
 
-    ghost view = { λ s. record { decided = s.decided; present = s.present; held = s.held; finished = s.finished } };
+    ghost view = { λ s. record { depth = s.depth; present = s.present; held = s.held; finished = s.finished } };
 
-    ghost inverse = { λ s. record { decided = s.decided; present = s.present; held = s.held; finished = s.finished } };
+    ghost inverse = { λ s. record { depth = s.depth; present = s.present; held = s.held; finished = s.finished } };
 
-    ghost invariant = { λ s. s.decided ≤ width };
+    ghost invariant = { λ s. s.depth ≤ width };
 }
 
 impl Search {
@@ -37,7 +39,7 @@ impl Search {
         ensures { result ≡ start }
     {
         Search {
-            decided: 0,
+            depth: 0,
             present: 0,
             held: None,
             finished: false,
@@ -50,22 +52,19 @@ impl Search {
         ensures present { result.present ≡ present_at count self }
         ensures absent { result.absent ≡ absent_at count self }
     {
-        PartSheet::deciding(
-            first_marks(self.decided) | !first_marks(count),
-            self.present,
-        )
+        PartSheet::deciding(first_marks(self.depth) | !first_marks(count), self.present)
     }
 
     // Drops the trailing present decisions, then turns the last absent one into present; the sheet is held from then on.
     pub(crate) fn dismiss(self, held: Option<Sheet>) -> Search
-        ensures { result ≡ dismissed self.decided self.present held }
+        ensures { result ≡ dismissed self.depth self.present held }
     {
         let mut present = self.present;
-        for last in (0..self.decided).rev() {
+        for last in (0..self.depth).rev() {
             let bit: Sheet = 1 << last;
             if !has_mark(present, last) {
                 return Search {
-                    decided: last + 1,
+                    depth: last + 1,
                     present: present | bit,
                     held,
                     finished: false,
@@ -74,7 +73,7 @@ impl Search {
             present -= bit;
         }
         Search {
-            decided: 0,
+            depth: 0,
             present: 0,
             held,
             finished: true,
@@ -83,11 +82,11 @@ impl Search {
 
     // Decides the next mark absent.
     pub(crate) fn deepen(self) -> Search
-        requires { self.decided < width }
-        ensures { result ≡ record { decided = self.decided + 1; present = self.present; held = self.held; finished = false } }
+        requires { self.depth < width }
+        ensures { result ≡ record { depth = self.depth + 1; present = self.present; held = self.held; finished = false } }
     {
         Search {
-            decided: self.decided + 1,
+            depth: self.depth + 1,
             present: self.present,
             held: self.held,
             finished: false,

@@ -15,6 +15,7 @@ use sheets::{Judge, Scale};
 pub struct Seeking<J, S> {
     // What it withdraws to.
     pub(crate) marking: Marking<J, S>,
+    // Where its search stands.
     pub(crate) search: Search,
 }
 
@@ -30,7 +31,7 @@ impl<J: Judge, S: Scale> Seeking<J, S> {
         let search = walk.search;
         self.search = search;
         Progress {
-            taken,
+            steps: taken,
             finished: search.finished,
             place: search.place(acts.count()),
             held: with_cost(scale, search.held),

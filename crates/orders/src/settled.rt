@@ -11,6 +11,7 @@ use sheets::{Judge, Scale, Sheet};
 pub struct Settled<J, S> {
     // What it reopens to.
     pub(crate) marking: Marking<J, S>,
+    // What the search held at its end.
     pub(crate) held: Option<Sheet>,
 }
 

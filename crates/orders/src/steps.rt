@@ -19,8 +19,8 @@ pub(crate) fn with_cost<S: Scale>(scale: &S, held: Option<Sheet>) -> Option<(She
     held.map(|sheet| (sheet, sheet_cost(scale, sheet)))
 }
 
-// A search under the judge and the scale, with the cost of the sheet that is held at hand; where none is held, it is that
-// of the empty sheet.
+// A walk is a search that takes steps: it has the search, its judge and its scale, and the cost of the sheet that is held,
+// so that it is not computed again at each step; where none is held, that of the empty sheet.
 #[derive(Drop)]
 pub(crate) struct Walk<'a, J, S: Scale> {
     judge: &'a J,
@@ -64,7 +64,7 @@ impl<'a, J: Judge, S: Scale> Walk<'a, J, S> {
         let search = self.search;
         if self.is_dismissed() {
             self.search = search.dismiss(search.held);
-        } else if search.decided >= self.judge.count() {
+        } else if search.depth >= self.judge.count() {
             let sheet = search.present;
             self.search = search.dismiss(Some(sheet));
             self.cost = sheet_cost(self.scale, sheet);

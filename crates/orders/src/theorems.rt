@@ -8,7 +8,8 @@ pub fn search_ends<J: Judge, S: Scale>(judge: &J, scale: &S)
     ensures { SearchEnds (J.judging judge.now) (S.scaling scale.now) }
 {}
 
-// A search goes through the sheets in their order, and passes over only what is not allowed or not cheaper.
+// A search goes through the sheets in their order. Of the sheets of marks below the count, a step passes only those that
+// are not allowed, or cost no less than the sheet held, or are held from then on.
 pub fn search_in_order<J: Judge, S: Scale>(judge: &J, scale: &S)
     ensures { SearchInOrder (J.judging judge.now) (S.scaling scale.now) }
 {}

@@ -24,6 +24,7 @@ impl<C> From<Result<u8, Refusal>> for Answer<C> {
     }
 }
 
+// A call on a marking order, as `turn` has it.
 fn marking_turn<J: Judge + Drop, S: Scale + Drop>(
     mut marking: Marking<J, S>,
     call: Call,
@@ -41,6 +42,7 @@ fn marking_turn<J: Judge + Drop, S: Scale + Drop>(
     Some((Order::Marking(marking), returned.into()))
 }
 
+// A call on a seeking order, as `turn` has it.
 fn seeking_turn<J: Judge + Drop, S: Scale + Drop>(
     mut seeking: Seeking<J, S>,
     call: Call,
@@ -62,6 +64,7 @@ fn seeking_turn<J: Judge + Drop, S: Scale + Drop>(
     }
 }
 
+// A call on a settled order, as `turn` has it.
 fn settled_turn<J: Judge + Drop, S: Scale + Drop>(
     settled: Settled<J, S>,
     call: Call,

@@ -18,6 +18,7 @@ use Rattle.rulefile.specs.declared.files.RuleFile.{RuleFile}
 use Rattle.rulefile.specs.Answers.{file_of}
 use Rattle.rulefile.specs.Model.{wish_of}
 use Rattle.rulefile.specs.Numbers as file-number
+use Rattle.rulefile.specs.Words.{bad_file_words}
 use Rattle.rulefile.proofs.Fits.{fit_parts}
 use Rattle.scales.specs.Wishes.{wish_cost, sum_at, top, down_from}
 use Rattle.sheets.specs.Counting.{marks_most}
@@ -25,7 +26,7 @@ use Rattle.scales.specs.Distances.{differ_at, distance_of}
 use Rattle.orders.specs.declared.acts.Act.{Act as Standing}
 use Rattle.orders.specs.declared.acts.Refusal.{Refusal}
 use Rattle.orders.specs.declared.acts.Refusal.TheVariants.{MarkRange, MarkTaken, SheetStruck, DocketFull, DocketEmpty}
-use Rattle.orders.specs.Logs.{fed}
+use Rattle.orders.specs.Logs.{after_call}
 use Rattle.orders.specs.Numbers.{number}
 use Rattle.report.specs.Lines.{line_end, bad_file_line, act_line, call_of, refused_by, act_lines, spaced, marks, sheet_line, no_sheet_line, answer_line}
 use Rattle.report.proofs.Texts.{length-spaced-le}
@@ -67,8 +68,8 @@ bad_file_short bad =
       arith,
       decimal_length (file-number.number bad.why),
       decimal_length bad.at,
-      length-append n (codes " at " ++ (at ++ line_end)),
-      length-append at line_end,
+      length-append n (codes " at " ++ at),
+      length-append (bad_file_words bad) line_end,
     )
 
 -- ---- acts
@@ -84,8 +85,8 @@ acts_length n standing (a ∷ acts) =
     omega (
       arith,
       act_length (refused_by n standing a),
-      acts_length n (fed n standing (call_of a)) acts,
-      length-append (act_line (refused_by n standing a)) (act_lines n (fed n standing (call_of a)) acts),
+      acts_length n (after_call n standing (call_of a)) acts,
+      length-append (act_line (refused_by n standing a)) (act_lines n (after_call n standing (call_of a)) acts),
     )
 
 -- ---- marks

@@ -10,7 +10,7 @@ use Rattle.rulefile.specs.Model.{FileModel}
 use Rattle.orders.specs.Best.{Best}
 use Rattle.orders.specs.Searches.{priced}
 use Rattle.report.specs.Lines.{act_lines, answer_line}
-use Rattle.report.specs.Reports.{order_of, scale_of, Lines}
+use Rattle.report.specs.Reports.{left_open, scale_of, IsReport}
 
 -- ---- two sheets
 
@@ -45,8 +45,8 @@ module _ {C : Type 0} (j : Judging) (s : Scaling C) (n : ℕ) (inside : (z : ℕ
 
 -- ---- the report
 
-pub lines_one : (file : Result FileModel BadFile) (a b : List ℕ) → Lines file a → Lines file b → a ≡ b
+pub lines_one : (file : Result FileModel BadFile) (a b : List ℕ) → IsReport file a → IsReport file b → a ≡ b
 lines_one (Err bad) a b p q = p ∙ sym q
 lines_one (Ok f) a b p q =
-    let same = best_one (order_of f) (scale_of f) f.count (λ z al. al.0.1.0) p.0 q.0 p.1 q.1 in
+    let same = best_one (left_open f) (scale_of f) f.count (λ z al. al.0.1.0) p.0 q.0 p.1 q.1 in
     p.2 ∙ ap (λ (held : Option ℕ). act_lines f.count [] f.acts ++ answer_line f held) same ∙ sym q.2

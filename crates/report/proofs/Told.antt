@@ -22,32 +22,32 @@ use Rattle.orders.specs.Acts.{under}
 use Rattle.orders.specs.Best.{Best}
 use Rattle.orders.specs.Dockets.{returned}
 use Rattle.orders.specs.Searches.{priced}
-use Rattle.orders.specs.Stages.{marking, allowed}
-use Rattle.orders.specs.Logs.{fed, fed_all, docket, answer_of, ByDocket, calls_of, Kept, Conducted}
+use Rattle.orders.specs.Stages.{marking, calls_had}
+use Rattle.orders.specs.Logs.{after_call, after_calls, docket, answer_of, ByDocket, calls_of, Kept, Conducted}
 use Rattle.report.specs.Lines.{act_line, call_of, refused_by, act_lines, answer_line}
 use Rattle.report.specs.Logs.{calls_for, final_text, answer_text, log_text}
-use Rattle.report.specs.Reports.{judge_of, scale_of, Lines}
+use Rattle.report.specs.Reports.{judge_of, scale_of, IsReport}
 
 abbrev Cost : Type 0
 Cost = LevelCost × ℕ
 
 -- ---- the docket
 
-fed_append : (n : ℕ) (acts : List Standing) (xs ys : List Call) → fed_all n acts (xs ++ ys) ≡ fed_all n (fed_all n acts xs) ys
-fed_append n acts [] ys = refl
-fed_append n acts (x ∷ xs) ys = fed_append n (fed n acts x) xs ys
+after_calls_append : (n : ℕ) (acts : List Standing) (xs ys : List Call) → after_calls n acts (xs ++ ys) ≡ after_calls n (after_calls n acts xs) ys
+after_calls_append n acts [] ys = refl
+after_calls_append n acts (x ∷ xs) ys = after_calls_append n (after_call n acts x) xs ys
 
-docket_push : (n : ℕ) (log : List (Event Cost)) (e : Event Cost) → docket n (calls_of (log ++ (e ∷ []))) ≡ fed n (docket n (calls_of log)) e.call
-docket_push n log e = ap (docket n) (map_push (λ (x : Event Cost). x.call) log e) ∙ fed_append n [] (calls_of log) (e.call ∷ [])
+docket_push : (n : ℕ) (log : List (Event Cost)) (e : Event Cost) → docket n (calls_of (log ++ (e ∷ []))) ≡ after_call n (docket n (calls_of log)) e.call
+docket_push n log e = ap (docket n) (map_push (λ (x : Event Cost). x.call) log e) ∙ after_calls_append n [] (calls_of log) (e.call ∷ [])
 
 -- ---- all calls are answered
 
-allowed_for : (acts : List Act) → allowed marking (calls_for acts) ≡ length (calls_for acts)
-allowed_for [] = refl
-allowed_for (Pin mark ∷ acts) = ap suc (allowed_for acts)
-allowed_for (Bar mark ∷ acts) = ap suc (allowed_for acts)
-allowed_for (Strike sheet ∷ acts) = ap suc (allowed_for acts)
-allowed_for (Undo ∷ acts) = ap suc (allowed_for acts)
+calls_had_for : (acts : List Act) → calls_had marking (calls_for acts) ≡ length (calls_for acts)
+calls_had_for [] = refl
+calls_had_for (Pin mark ∷ acts) = ap suc (calls_had_for acts)
+calls_had_for (Bar mark ∷ acts) = ap suc (calls_had_for acts)
+calls_had_for (Strike sheet ∷ acts) = ap suc (calls_had_for acts)
+calls_had_for (Undo ∷ acts) = ap suc (calls_had_for acts)
 
 -- ---- the answers to acts
 
@@ -56,10 +56,10 @@ answered_text None after = refl
 answered_text (Some why) after = refl
 
 act_text : (n : ℕ) (acts : List Standing) (a : Act) (r : Answer Cost) → ByDocket n acts (call_of a) r → answer_text r ≡ act_line (refused_by n acts a)
-act_text n acts (Pin mark) r e = ap answer_text e ∙ answered_text (refused_by n acts (Pin mark)) (fed n acts (call_of (Pin mark)))
-act_text n acts (Bar mark) r e = ap answer_text e ∙ answered_text (refused_by n acts (Bar mark)) (fed n acts (call_of (Bar mark)))
-act_text n acts (Strike sheet) r e = ap answer_text e ∙ answered_text (refused_by n acts (Strike sheet)) (fed n acts (call_of (Strike sheet)))
-act_text n acts Undo r e = ap answer_text e ∙ answered_text (refused_by n acts Undo) (fed n acts (call_of Undo))
+act_text n acts (Pin mark) r e = ap answer_text e ∙ answered_text (refused_by n acts (Pin mark)) (after_call n acts (call_of (Pin mark)))
+act_text n acts (Bar mark) r e = ap answer_text e ∙ answered_text (refused_by n acts (Bar mark)) (after_call n acts (call_of (Bar mark)))
+act_text n acts (Strike sheet) r e = ap answer_text e ∙ answered_text (refused_by n acts (Strike sheet)) (after_call n acts (call_of (Strike sheet)))
+act_text n acts Undo r e = ap answer_text e ∙ answered_text (refused_by n acts Undo) (after_call n acts (call_of Undo))
 
 -- ---- the whole log
 
@@ -67,7 +67,7 @@ act_text n acts Undo r e = ap answer_text e ∙ answered_text (refused_by n acts
 module _ (j : Judging) (s : Scaling Cost) (n : ℕ) where
   pub record Told (acts : List Standing) (rest : List Act) (text : List ℕ) : Type 0 where
     pub held : Option ℕ
-    pub best : Best (under j (fed_all n acts (map call_of rest))) s (priced s held)
+    pub best : Best (under j (after_calls n acts (map call_of rest))) s (priced s held)
     pub lines : text ≡ act_lines n acts rest ++ final_text (priced s held)
 
 module _ (j : Judging) (s : Scaling Cost) (room : ℕ) (calls : List Call) (log : List (Event Cost)) (kept : Kept j s room calls log) where
@@ -86,7 +86,7 @@ module _ (j : Judging) (s : Scaling Cost) (room : ℕ) (calls : List Call) (log 
       let settled = kept.settlings f.answer (record { before = before ++ (e ∷ []); after = []; here = named (before ++ (e ∷ [])) [] f Settle later settles }) in
       let answer = settled.0 in
       let end = settled.2 in
-      let same : docket n (calls_of (before ++ (e ∷ []))) ≡ docket n (calls_of before) = docket_push n before e ∙ ap (fed n (docket n (calls_of before))) seeks in
+      let same : docket n (calls_of (before ++ (e ∷ []))) ≡ docket n (calls_of before) = docket_push n before e ∙ ap (after_call n (docket n (calls_of before))) seeks in
       record {
         held = end.reached.held;
         best = subst (λ (acts : List Standing). Best (under j acts) s (priced s end.reached.held)) same
@@ -101,7 +101,7 @@ module _ (j : Judging) (s : Scaling Cost) (room : ℕ) (calls : List Call) (log 
       → Told j s n (docket n (calls_of (before ++ (e ∷ [])))) acts (log_text more) → Told j s n (docket n (calls_of before)) (a ∷ acts) (log_text (e ∷ more))
   unfolding log_text
   act_told a acts before more e here same rest =
-      let on : docket n (calls_of (before ++ (e ∷ []))) ≡ fed n (docket n (calls_of before)) (call_of a) = docket_push n before e ∙ ap (fed n (docket n (calls_of before))) same in
+      let on : docket n (calls_of (before ++ (e ∷ []))) ≡ after_call n (docket n (calls_of before)) (call_of a) = docket_push n before e ∙ ap (after_call n (docket n (calls_of before))) same in
       let t = subst (λ (d : List Standing). Told j s n d acts (log_text more)) on rest in
       let first = act_text n (docket n (calls_of before)) a e.answer
       (kept.decided (call_of a) e.answer (record { before = before; after = more; here = named before more e (call_of a) here same })) in
@@ -110,7 +110,7 @@ module _ (j : Judging) (s : Scaling Cost) (room : ℕ) (calls : List Call) (log 
         best = t.best;
         lines =
             ap₂ (λ (x y : List ℕ). x ++ y) first t.lines
-            ∙ sym (append_assoc (act_line (refused_by n (docket n (calls_of before)) a)) (act_lines n (fed n (docket n (calls_of before)) (call_of a)) acts) (final_text (priced s t.held)));
+            ∙ sym (append_assoc (act_line (refused_by n (docket n (calls_of before)) a)) (act_lines n (after_call n (docket n (calls_of before)) (call_of a)) acts) (final_text (priced s t.held)));
       }
 
   rest_told : (acts : List Act) (before rest : List (Event Cost)) → log ≡ before ++ rest → calls_of rest ≡ calls_for acts → Told j s n (docket n (calls_of before)) acts (log_text rest)
@@ -129,7 +129,7 @@ module _ (j : Judging) (s : Scaling Cost) (room : ℕ) (calls : List Call) (log 
 
   told : (acts : List Act) → calls ≡ calls_for acts → length calls ≤ room → Told j s n [] acts (log_text log)
   told acts e enough =
-      let many : min (allowed marking calls) room ≡ length calls = let m = ap (allowed marking) e ∙ allowed_for acts ∙ sym (ap length e) in omega (arith, m) in
+      let many : min (calls_had marking calls) room ≡ length calls = let m = ap (calls_had marking) e ∙ calls_had_for acts ∙ sym (ap length e) in omega (arith, m) in
       let all : calls_of log ≡ calls_for acts = kept.answered ∙ ap (λ (m : ℕ). take m calls) many ∙ take_all (length calls) calls (omega arith) ∙ e in
       rest_told acts [] log refl all
 
@@ -139,7 +139,7 @@ answer_told : (f : FileModel) (held : Option ℕ) → final_text (priced (scale_
 answer_told f None = refl
 answer_told f (Some z) = refl
 
-pub lines_told : (f : FileModel) (room : ℕ) (calls : List Call) (log : List (Event Cost)) → Kept (judge_of f) (scale_of f) room calls log → calls ≡ calls_for f.acts → length calls ≤ room → Lines (Ok f) (log_text log)
+pub lines_told : (f : FileModel) (room : ℕ) (calls : List Call) (log : List (Event Cost)) → Kept (judge_of f) (scale_of f) room calls log → calls ≡ calls_for f.acts → length calls ≤ room → IsReport (Ok f) (log_text log)
 lines_told f room calls log kept e enough =
     let same : min f.count f.count ≡ f.count = omega arith in
     let t = subst (λ (m : ℕ). Told (judge_of f) (scale_of f) m [] f.acts (log_text log)) same (told (judge_of f) (scale_of f) room calls log kept f.acts e enough) in
@@ -148,7 +148,7 @@ lines_told f room calls log kept e enough =
 -- the log of a conducted order, over judges and scales of the file
 pub conducted_told : (f a b d : FileModel) (h room : ℕ) (calls : List Call) (before after : List (Event Cost)) → a ≡ f → b ≡ f → d ≡ f → h ≡ f.house
     → Conducted (both (book_of a) (list_of b)) (first_then (levels_of d.wishes) (distance_of h)) room calls before after
-    → before ≡ [] → calls ≡ calls_for f.acts → length calls ≤ room → Lines (Ok f) (log_text after)
+    → before ≡ [] → calls ≡ calls_for f.acts → length calls ≤ room → IsReport (Ok f) (log_text after)
 conducted_told f a b d h room calls before after ea eb ed eh done none e enough =
     let c = rw (ea, eb, ed, eh) at done in
     let all : after ≡ c.events = rw none at c.added in

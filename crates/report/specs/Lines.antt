@@ -7,7 +7,7 @@ use Rattle.rulefile.specs.declared.refusals.BadFile.{BadFile}
 use Rattle.rulefile.specs.declared.records.Act.{Act}
 use Rattle.rulefile.specs.declared.records.Act.TheVariants.{Pin, Bar, Strike, Undo}
 use Rattle.rulefile.specs.Model.{FileModel}
-use Rattle.rulefile.specs.Numbers as file
+use Rattle.rulefile.specs.Words.{bad_file_words}
 use Rattle.scales.specs.Wishes.{wish_cost, sum_at, top, down_from}
 use Rattle.scales.specs.Distances.{distance_of}
 use Rattle.orders.specs.declared.acts.Act.{Act as Standing}
@@ -16,7 +16,7 @@ use Rattle.orders.specs.declared.acts.Refusal.{Refusal}
 use Rattle.orders.specs.declared.calls.Call.{Call}
 use Rattle.orders.specs.declared.calls.Call.TheVariants as call
 use Rattle.orders.specs.Dockets.{refused_act, undo_refused}
-use Rattle.orders.specs.Logs.{fed}
+use Rattle.orders.specs.Logs.{after_call}
 use Rattle.orders.specs.Numbers as orders
 
 -- the end of a line
@@ -25,9 +25,9 @@ line_end = 10 ∷ []
 
 -- ---- a bad file
 
--- the refusal of a file, and where it applies
+-- the refusal of a file, and where it applies, as `rulefile` prints it
 unfoldable pub bad_file_line : BadFile → List ℕ
-bad_file_line bad = codes "refused " ++ (decimal (file.number bad.why) ++ (codes " at " ++ (decimal bad.at ++ line_end)))
+bad_file_line bad = bad_file_words bad ++ line_end
 
 -- ---- acts
 
@@ -53,7 +53,7 @@ refused_by n acts Undo = undo_refused acts
 -- a line for each act, by the docket
 abbrev pub act_lines : ℕ → List Standing → List Act → List ℕ
 act_lines n acts [] = []
-act_lines n acts (a ∷ rest) = act_line (refused_by n acts a) ++ act_lines n (fed n acts (call_of a)) rest
+act_lines n acts (a ∷ rest) = act_line (refused_by n acts a) ++ act_lines n (after_call n acts (call_of a)) rest
 
 -- ---- the sheet
 
@@ -70,6 +70,7 @@ unfoldable pub sheet_line : ℕ → List ℤ → ℕ → List ℕ
 sheet_line z levels distance =
     codes "sheet" ++ (spaced decimal (marks z) ++ (codes " cost" ++ (spaced signed_decimal levels ++ (codes " off " ++ (decimal distance ++ line_end)))))
 
+-- the line where no sheet is settled on
 unfoldable pub no_sheet_line : List ℕ
 no_sheet_line = codes "no sheet" ++ line_end
 

@@ -28,5 +28,6 @@ answer_text Moved = []
 answer_text (Shown p) = []
 answer_text (Final answer) = final_text answer
 
+-- the lines of the answers of a log
 unfoldable pub log_text : List (Event (LevelCost × ℕ)) → List ℕ
 log_text log = flat_map (λ e. answer_text e.answer) log

@@ -27,31 +27,32 @@ judge_of f = both (book_of f) (list_of f)
 abbrev pub scale_of : FileModel → Scaling (LevelCost × ℕ)
 scale_of f = first_then (levels_of f.wishes) (distance_of f.house)
 
--- what is lawful, can be printed, and keeps the acts that stand after those of the file
-abbrev pub order_of : FileModel → Judging
-order_of f = under (judge_of f) (docket f.count (map call_of f.acts))
+-- the judge of the sheets that are left open: they are lawful, can be printed, and keep the acts that stand after those of
+-- the file
+abbrev pub left_open : FileModel → Judging
+left_open f = under (judge_of f) (docket f.count (map call_of f.acts))
 
--- the lines of the report on a file that means this: for a bad file its refusal; for a good one the lines of its acts, and
+-- the lines are a report on a file that means this: for a bad file its refusal; for a good one the lines of its acts, and
 -- that of the cheapest sheet, the earliest of several, or of no sheet where there is none
-abbrev pub Lines : Result FileModel BadFile → List ℕ → Type 0
-Lines (Err bad) lines = lines ≡ bad_file_line bad
-Lines (Ok f) lines =
-    (held : Option ℕ) × Best (order_of f) (scale_of f) (priced (scale_of f) held) × (lines ≡ act_lines f.count [] f.acts ++ answer_line f held)
+abbrev pub IsReport : Result FileModel BadFile → List ℕ → Type 0
+IsReport (Err bad) lines = lines ≡ bad_file_line bad
+IsReport (Ok f) lines =
+    (held : Option ℕ) × Best (left_open f) (scale_of f) (priced (scale_of f) held) × (lines ≡ act_lines f.count [] f.acts ++ answer_line f held)
 
 -- how many bytes a buffer has at least
 abbrev pub least_buffer : ℕ
 least_buffer = 4096
 
--- the lines are such, and fit every buffer
-pub record Fitting (file : Result FileModel BadFile) (lines : List ℕ) : Type 0 where
-  pub meaning : Lines file lines
+-- the lines are a report on the file, and no longer than the shortest buffer that is accepted
+pub record ReportThatFits (file : Result FileModel BadFile) (lines : List ℕ) : Type 0 where
+  pub meaning : IsReport file lines
   pub short : length lines ≤ least_buffer
 
 -- the lines are the report on the bytes of a file
 pub record Report (bytes lines : List ℕ) : Type 0 where
-  pub fitting : Fitting (decode bytes) lines
+  pub fitting : ReportThatFits (decode bytes) lines
   -- there is one report on a file
-  pub only : (other : List ℕ) → Lines (decode bytes) other → other ≡ lines
+  pub only : (other : List ℕ) → IsReport (decode bytes) other → other ≡ lines
 
 -- the report stands at the front of the buffer, and the bytes after it are as they were
 pub record Written (bytes before : List ℕ) (n : ℕ) (after : List ℕ) : Type 0 where

@@ -4,12 +4,13 @@ use Rattle.std.specs.Str.{all_ascii_digits}
 use Rattle.sheets.specs.Sheets.{width, has}
 use Rattle.report.specs.Lines.{marks}
 
--- the number that the digits mean, behind those that mean n
+-- the number whose decimal digits are those of n followed by these
 abbrev pub value_on : ℕ → List ℕ → ℕ
 value_on n [] = n
 value_on n (d ∷ ds) = value_on (10 * n + (d - 48)) ds
 
--- the text is the number in decimal, without leading zeros
+-- the text is the number in decimal, without leading zeros: there is a digit, all are digits, and the first is 0 only if it is
+-- the last (the second 0 of `slice_index_or` is what a list gives beyond its end)
 pub record Decimal (n : ℕ) (text : List ℕ) : Type 0 where
   pub some : 0 < length text
   pub digits : all_ascii_digits text ≡ true
@@ -22,6 +23,7 @@ pub record Upward (z : ℕ) (ms : List ℕ) : Type 0 where
   pub complete : (i : ℕ) → i < width → has z i ≡ true → (k : ℕ) × (k < length ms) × (slice_index ms k ≡ i)
   pub rising : (i k : ℕ) → i < k → k < length ms → slice_index ms i < slice_index ms k
 
+-- what the numbers and the marks in the lines of a report are
 pub record LinesStand : Type 0 where
   -- what is written of a number of at most 64 bits is the number in decimal, and no other text is
   pub decimals : (n : ℕ) → n < 2 ^ 64 → Decimal n (decimal n)

@@ -24,7 +24,7 @@ pub record HasRoom (w : Writer) (text : List ℕ) : Type 0 where
 
 -- the text was written behind what was written; all other bytes stay
 pub record Writes (old : Writer) (text : List ℕ) (new : Writer) : Type 0 where
-  -- it is the same reference
+  -- the writer has the same reference
   pub same_reference : new.out.ghost_name ≡ old.out.ghost_name
   pub same_length : length new.out.now ≡ length old.out.now
   pub len : new.len ≡ old.len + length text

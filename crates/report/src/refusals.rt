@@ -30,7 +30,11 @@ impl fmt::Display for Refusal {
 
     fn fmt<W: fmt::Write>(&self, f: &mut fmt::Formatter<W>) -> fmt::Result {
         match self {
-            Refusal::BufferSmall => f.write_str("refused 31: the buffer has fewer than 4096 bytes"),
+            Refusal::BufferSmall => write!(
+                f,
+                "refused {}: the buffer has fewer than 4096 bytes",
+                self.number()
+            ),
         }
     }
 }
@@ -42,7 +46,9 @@ impl Error for Refusal {}
 // `ReadError`.
 #[derive(Clone, Copy, Debug, PartialEq, Eq)]
 pub enum ReportError {
+    // The report is refused.
     Refused(Refusal),
+    // An allocation failed.
     Memory,
 }
 

@@ -3,7 +3,7 @@ ghost use Rattle.std.specs.Prelude.{◌≡◌, IfOk, Ok};
 ghost use Rattle.rulefile.specs.Answers.{file_of};
 ghost use Rattle.report.specs.Lines.{call_of};
 ghost use Rattle.report.specs.Logs.{calls_for, log_text};
-ghost use Rattle.report.specs.Reports.{Fitting};
+ghost use Rattle.report.specs.Reports.{ReportThatFits};
 
 use judges::{Book, PrinterList};
 use orders::{Call, Event, conduct};
@@ -40,7 +40,7 @@ fn calls_after(heap: Global, acts: &[Act]) -> Result<Vec<Call>, AllocError>
 
 // The log of the order that settles after the acts of the file: its text is the report.
 pub(crate) fn settled_log(heap: Global, file: RuleFile) -> Result<Vec<Event<Cost>>, AllocError>
-    ensures { IfOk result (λ log. Fitting (Ok (file_of file)) (log_text log.items)) }
+    ensures { IfOk result (λ log. ReportThatFits (Ok (file_of file)) (log_text log.items)) }
 {
     let calls = calls_after(heap, file.acts.as_slice())?;
     let mut log = Vec::with_capacity(heap, calls.len())?;

@@ -37,6 +37,7 @@ impl<'a> Writer<'a> {
         self.len
     }
 
+    // The text, behind what is written.
     fn text(&mut self, text: &[u8])
         requires { HasRoom self.old text.now }
         ensures { Writes self.old text.now self.new }
@@ -93,6 +94,7 @@ impl<'a> Writer<'a> {
         }
     }
 
+    // The line of a settled sheet with its cost.
     #[tactic(auto, unfolding(crate::specs::Lines::sheet_line))]
     fn sheet(&mut self, sheet: Sheet, cost: Cost)
         requires { HasRoom self.old (sheet_line sheet (down_from top (cost_at cost.0.levels)) cost.1) }
@@ -120,6 +122,7 @@ impl<'a> Writer<'a> {
         }
     }
 
+    // The line of an act that is refused.
     #[tactic(auto, unfolding(crate::specs::Lines::act_line))]
     fn refusal(&mut self, why: Refusal)
         requires { HasRoom self.old (act_line (Some why)) }
@@ -130,6 +133,7 @@ impl<'a> Writer<'a> {
         self.text(b"\n");
     }
 
+    // The line of an answer, if it has one.
     #[tactic(auto, unfolding(crate::specs::Lines::act_line))]
     fn answer(&mut self, answer: Answer<Cost>)
         requires { HasRoom self.old (answer_text answer) }

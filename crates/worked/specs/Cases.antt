@@ -23,20 +23,23 @@ sheet (m ∷ ms) = 2 ^ m + sheet ms
 
 infixl 90 ◌is◌
 infixl 10 ◌if◌
--- the element mark=weight, and "not" of it
+-- the element mark=weight
 abbrev pub ◌is◌ : ℕ → ℕ → Element
 ◌is◌ m w = record { literal = record { mark = m; negated = false }; weight = w }
 
+-- the element not mark=weight
 abbrev pub not_is : ℕ → ℕ → Element
 not_is m w = record { literal = record { mark = m; negated = true }; weight = w }
 
--- low ≤ elements, and low ≤ elements ≤ high
+-- n ≤ elements
 abbrev pub at_least : ℕ → List Element → ConstraintModel
 at_least n es = record { low = n; high = None; elements = es }
 
+-- n ≤ elements ≤ m
 abbrev pub between : ℕ → List Element → ℕ → ConstraintModel
 between n es m = record { low = n; high = Some m; elements = es }
 
+-- the rule with this head and this body
 abbrev pub ◌if◌ : ConstraintModel → List ConstraintModel → RuleModel
 ◌if◌ k ks = record { head = k; body = ks }
 
@@ -73,17 +76,19 @@ two_levels =
     ∷ record { level = 1; weight = pos 100; literals = record { mark = 1; negated = false } ∷ [] }
     ∷ []
 
--- a head alone with count 1 and an empty house sheet, and what its sheets cost by levels and then distance
+-- a head alone with count 1 and an empty house sheet
 abbrev pub alone : FileModel
 alone = head_alone (1, 0)
 
+-- what its sheets cost, by levels and then distance
 abbrev pub engine_scale : Scaling (LevelCost × ℕ)
 engine_scale = first_then (levels_of alone.wishes) (distance_of alone.house)
 
 -- the end of a search that holds {}
 abbrev pub settled_empty : Search
-settled_empty = record { decided = 0; present = 0; held = Some (sheet []); finished = true }
+settled_empty = record { depth = 0; present = 0; held = Some (sheet []); finished = true }
 
+-- the worked cases of docs/SEMANTICS.md
 pub record CasesStand : Type 0 where
   -- with no rules, {} is lawful and {0} ungrounded
   pub none_empty : Says [] (sheet []) Lawful
@@ -94,11 +99,11 @@ pub record CasesStand : Type 0 where
   -- two marks that support only each other
   pub support_empty : Says each_other (sheet []) Lawful
   pub support_both : Says each_other (sheet (0 ∷ 1 ∷ [])) (Ungrounded 0)
-  -- a mark that follows from its own absence: no sheet
+  -- a mark that follows from its own absence: no sheet (a high bound is tested in the sheet, and not in the closure)
   pub missing_empty : Says if_missing (sheet []) (Broken 0)
   pub missing_zero : Says if_missing (sheet (0 ∷ [])) (Ungrounded 0)
   pub missing_none : (z : ℕ) → AnswerSet if_missing z → ⊥
-  -- a high bound is tested in the sheet and not in the closure
+  -- a mark that may be there or not
   pub not_missing_empty : Says if_not_missing (sheet []) Lawful
   pub not_missing_zero : Says if_not_missing (sheet (0 ∷ [])) Lawful
   -- weights of 4 or more are too many

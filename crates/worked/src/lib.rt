@@ -3,6 +3,7 @@
 
 ghost use Rattle.worked.specs.Cases.{CasesStand};
 
+// The verdicts, costs and steps of the worked cases are as docs/SEMANTICS.md says.
 pub fn cases_stand()
     ensures { CasesStand }
 {}

@@ -6,7 +6,7 @@ use Rattle.rulefile.specs.Format.{decode}
 use Rattle.report.specs.declared.writing.Writer.{Writer}
 use Rattle.report.specs.Lines.{bad_file_line}
 use Rattle.report.specs.Logs.{log_text}
-use Rattle.report.specs.Reports.{Fitting, Written}
+use Rattle.report.specs.Reports.{ReportThatFits, Written}
 use Rattle.report.specs.Writing.{HasRoom, Writes}
 use Rattle.report.proofs.Lengths.{bad_file_short}
 use Rattle.report.proofs.Only.{lines_one}
@@ -16,9 +16,9 @@ use Rattle.report.proofs.reports.report.Goals.{in-Ok+in_ok-log-in-Ok, in-Err-Ref
 
 -- the lines of what the bytes mean stand at the front of the buffer
 report_written : (bytes before lines after : List ℕ) (n : ℕ) (file : Result FileModel BadFile) (w v : Writer) → w.len ≡ 0 → w.out.now ≡ before → 4096 ≤ length before
-    → decode bytes ≡ file → Fitting file lines → Writes w lines v → n ≡ v.len → after ≡ v.out.now → Written bytes before n after
+    → decode bytes ≡ file → ReportThatFits file lines → Writes w lines v → n ≡ v.len → after ≡ v.out.now → Written bytes before n after
 report_written bytes before lines after n file w v none same room means fitting p len end =
-    let f = subst (λ (x : Result FileModel BadFile). Fitting x lines) (sym means) fitting in
+    let f = subst (λ (x : Result FileModel BadFile). ReportThatFits x lines) (sym means) fitting in
     let many : length lines ≡ n = omega (arith, p.len) in
     record {
       room = room;
@@ -38,7 +38,7 @@ returns c =
           let p = rw (← w.lines-is) at w.log.ensures in
           report_written file before (log_text w.as_slice.result.now) _ c.len.result (Ok (file_of w.in-Ok.rules)) c.new-lines.result c.match-read.lines start.none start.bytes c.if-out-lt-LEAST_BUFFER.false
           w.in-Ok.ensures.meaning
-          (subst (λ l. Fitting (Ok (file_of w.in-Ok.rules)) (log_text l)) (sym w.as_slice.ensures.value) w.in_ok-log-in-Ok.ensures)
+          (subst (λ l. ReportThatFits (Ok (file_of w.in-Ok.rules)) (log_text l)) (sym w.as_slice.ensures.value) w.in_ok-log-in-Ok.ensures)
           p c.len.ensures (search (rules, p.same_reference))
       | in-Err-Refused w ↦
           let bad = w.in-Err-Refused.bad in

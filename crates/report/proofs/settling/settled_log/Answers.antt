@@ -3,12 +3,12 @@ use Rattle.rulefile.specs.declared.files.RuleFile.{RuleFile}
 use Rattle.rulefile.specs.Answers.{file_of}
 use Rattle.orders.specs.Models.{room_of}
 use Rattle.report.specs.Logs.{calls_for, log_text}
-use Rattle.report.specs.Reports.{Lines, Fitting}
+use Rattle.report.specs.Reports.{IsReport, ReportThatFits}
 use Rattle.report.proofs.Told.{conducted_told}
 use Rattle.report.proofs.Lengths.{lines_short}
 use Rattle.report.proofs.settling.settled_log.Goals as goal
 
-fitting : (file : RuleFile) (lines : List ℕ) → Lines (Ok (file_of file)) lines → Fitting (Ok (file_of file)) lines
+fitting : (file : RuleFile) (lines : List ℕ) → IsReport (Ok (file_of file)) lines → ReportThatFits (Ok (file_of file)) lines
 fitting file lines l = record { meaning = l; short = omega (arith, ap length l.2, lines_short file l.0) }
 
 pub returns : goal.returns

@@ -1,5 +1,5 @@
-use Rattle.orders.proofs.Dockets.{undone_pop}
+use Rattle.orders.proofs.Dockets.{undo_pop}
 use Rattle.orders.proofs.docket.Docket.undo.Goals as goal
 
 pub returns-clause-after : goal.returns-clause-after
-returns-clause-after c = undone_pop _ _ _ _ c.pop.ensures.items c.in_ok-ok_or.ensures.ok_part
+returns-clause-after c = undo_pop _ _ _ _ c.pop.ensures.items c.in_ok-ok_or.ensures.ok_part

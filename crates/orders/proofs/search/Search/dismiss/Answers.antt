@@ -12,7 +12,7 @@ pub returns-then-not-has_mark : goal.returns-then-not-has_mark
 returns-then-not-has_mark c =
     let last = c.loop-last.last - 1 in
     let next : suc last ≡ c.loop-last.last = omega arith in
-    let made : ℕ → Search = λ b. record { decided = last + 1; present = bit_or c.loop-last.present b; held = c.args.held; finished = false } in
+    let made : ℕ → Search = λ b. record { depth = last + 1; present = bit_or c.loop-last.present b; held = c.args.held; finished = false } in
     ap made (one_shl last width (omega (arith, c.self.invariant)))
     ∙ dismissed_absent c.loop-last.present last c.args.held (sym c.if-not-has_mark.ensures)
     ∙ ap (λ k. dismissed k c.loop-last.present c.args.held) next
