@@ -18,17 +18,8 @@ module _ {X Y : Type 0} (p : Y → Bool) (f : X → Y) where
   pub any_mapped : (xs : List X) (r : Bool) → r ≡ list_any (λ x. p (f x)) xs → r ≡ list_any p (map f xs)
   any_mapped xs r e = e ∙ any_of_map xs
 
--- the elements that are picked, and then their weights added up
+-- the weights of the elements that are picked, added up
 module _ (p : Literal → Bool) where
-  pub weigh_picked : (es : List Element) → sum_by (λ (e : Element). e.weight) (filter (λ (e : Element). p e.literal) es) ≡ weigh p es
-  weigh_picked [] = refl
-  weigh_picked (e ∷ es) = go (p e.literal) (weigh_picked es)
-    where
-      go : (b : Bool) → sum_by (λ (e : Element). e.weight) (filter (λ (e : Element). p e.literal) es) ≡ weigh p es
-          → sum_by (λ (e : Element). e.weight) (cond b (e ∷ filter (λ (e : Element). p e.literal) es) (filter (λ (e : Element). p e.literal) es)) ≡ cond b e.weight 0 + weigh p es
-      go true rest = sum_by-cons (λ (e : Element). e.weight) e (filter (λ (e : Element). p e.literal) es) ∙ ap (λ n. e.weight + n) rest
-      go false rest = rest ∙ sym (zero-add (weigh p es))
-
   pub weigh_summed : (es : List Element) → sum_by (λ (e : Element). cond (p e.literal) e.weight 0) es ≡ weigh p es
   weigh_summed [] = refl
   weigh_summed (e ∷ es) = sum_by-cons (λ (e : Element). cond (p e.literal) e.weight 0) e es ∙ ap (λ n. cond (p e.literal) e.weight 0 + n) (weigh_summed es)

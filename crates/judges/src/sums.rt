@@ -12,10 +12,16 @@ fn held_weight(elements: &[Element], by: Interpretation) -> u32
     requires { length elements.now ≤ 32 }
     ensures { result ≡ weigh (held by.there by.among) elements.now }
 {
+    // No `filter`: which elements are held is no branch to guess.
     elements
         .iter()
-        .filter(|element| element.literal.is_held(by))
-        .map(|element| u32::from(element.weight))
+        .map(|element| {
+            if element.literal.is_held(by) {
+                u32::from(element.weight)
+            } else {
+                0
+            }
+        })
         .sum()
 }
 

@@ -13,8 +13,8 @@ fn wish_floor(wish: &Wish, part: PartSheet) -> i16
 {
     if wish.are_all_held(part.sure()) {
         wish.weight
-    } else if wish.are_all_held(part.possible()) {
-        wish.weight.min(0)
+    } else if wish.weight < 0 && wish.are_all_held(part.possible()) {
+        wish.weight
     } else {
         0
     }

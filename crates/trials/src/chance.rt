@@ -35,7 +35,10 @@ impl fmt::Display for Found {
             refused,
             reports_differ,
         } = *self;
-        writeln!(f, "{BOOKS} random books: sheets: {sheets}; costs: {costs_differ} differ")?;
+        writeln!(
+            f,
+            "{BOOKS} random books: sheets: {sheets}; costs: {costs_differ} differ"
+        )?;
         write!(
             f,
             "reports: {with_sheet} with a sheet, {shared} of them with others of its cost, {acts} acts, {refused} refused, {reports_differ} differ"

@@ -18,8 +18,8 @@ fn add_record(file: &mut Vec<u8>, kind: Kind, body: &[u8]) -> Result<(), AllocEr
         Kind::Wish => 4,
         Kind::Act => 5,
     };
-    let length = (body.len() as u32).wrapping_add(2);
-    file.extend_from_slice(&length.to_le_bytes())?;
+    let [a, b, c, d, ..] = body.len().wrapping_add(2).to_le_bytes();
+    file.extend_from_slice(&[a, b, c, d])?;
     file.extend_from_slice(&code.to_le_bytes())?;
     file.extend_from_slice(body)
 }
@@ -49,8 +49,8 @@ impl Draw {
             random: Pcg32::new(seed, 0),
             count: 1,
         };
-        let larger = draw.below(6).max(draw.below(6));
-        draw.count = (larger as u8).saturating_add(1);
+        let larger = draw.small(6).max(draw.small(6));
+        draw.count = larger.saturating_add(1);
         draw
     }
 
@@ -59,8 +59,14 @@ impl Draw {
         self.random.next_word().checked_rem(limit).unwrap_or(0)
     }
 
+    // The same of a small limit.
+    fn small(&mut self, limit: u8) -> u8 {
+        let [low, ..] = self.below(u32::from(limit)).to_le_bytes();
+        low
+    }
+
     fn mark(&mut self) -> Mark {
-        self.below(u32::from(self.count)) as u8
+        self.small(self.count)
     }
 
     fn sheet(&mut self) -> Sheet {
@@ -107,7 +113,8 @@ impl Draw {
     ) -> Result<(), AllocError> {
         body.extend_from_slice(&bounds.0.to_le_bytes())?;
         body.extend_from_slice(&bounds.1.to_le_bytes())?;
-        body.push(elements.len() as u8)?;
+        let [count, ..] = elements.len().to_le_bytes();
+        body.push(count)?;
         for element in elements {
             body.push(byte_of(element.literal))?;
             body.extend_from_slice(&element.weight.to_le_bytes())?;
@@ -153,8 +160,8 @@ impl Draw {
     }
 
     fn add_rule(&mut self, file: &mut Vec<u8>) -> Result<(), AllocError> {
-        let n = self.below(4);
-        let mut body = vec![in self.heap; n as u8]?;
+        let n = self.small(4);
+        let mut body = vec![in self.heap; n]?;
         self.add_head(&mut body)?;
         for _ in 0..n {
             self.add_body_constraint(&mut body)?;
@@ -203,8 +210,8 @@ impl Draw {
         Ok(())
     }
 
-    fn add_literals(&mut self, body: &mut Vec<u8>, n: u32) -> Result<(), AllocError> {
-        body.push(n as u8)?;
+    fn add_literals(&mut self, body: &mut Vec<u8>, n: u8) -> Result<(), AllocError> {
+        body.push(n)?;
         for _ in 0..n {
             body.push(byte_of(self.literal(40)))?;
         }
@@ -213,22 +220,23 @@ impl Draw {
 
     fn add_clause(&mut self, file: &mut Vec<u8>) -> Result<(), AllocError> {
         let mut body = Vec::new(self.heap);
-        let n = self.below(40).min(3);
+        let n = self.small(40).min(3);
         self.add_literals(&mut body, n)?;
         add_record(file, Kind::Clause, body.as_slice())
     }
 
     // Small weights, so that there are sheets of one cost, and now and then large ones.
     fn add_wish(&mut self, file: &mut Vec<u8>) -> Result<(), AllocError> {
-        let level = (self.below(8) as u8).saturating_add(1);
+        let level = self.small(8).saturating_add(1);
         let weight = if self.below(3) == 0 {
-            (self.below(20_001) as i16).wrapping_sub(10_000)
+            let [a, b, ..] = self.below(20_001).to_le_bytes();
+            i16::from_le_bytes([a, b]).wrapping_sub(10_000)
         } else {
-            (self.below(7) as i16).wrapping_sub(3)
+            i16::from(self.small(7)).wrapping_sub(3)
         };
         let mut body = vec![in self.heap; level]?;
         body.extend_from_slice(&weight.to_le_bytes())?;
-        let n = self.below(3).wrapping_add(1);
+        let n = self.small(3).wrapping_add(1);
         self.add_literals(&mut body, n)?;
         add_record(file, Kind::Wish, body.as_slice())
     }
@@ -236,7 +244,7 @@ impl Draw {
     // Now and then a mark that is not below the count.
     fn act_mark(&mut self) -> Mark {
         if self.below(10) == 0 {
-            (self.below(70) as u8).saturating_add(self.count)
+            self.small(70).saturating_add(self.count)
         } else {
             self.mark()
         }

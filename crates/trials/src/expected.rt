@@ -34,10 +34,10 @@ fn keeps(act: Act, sheet: Sheet) -> bool {
 
 // The sheet is lawful, keeps every clause, and keeps the acts.
 fn is_open(file: &RuleFile, acts: &[Act], sheet: Sheet) -> bool {
-    let keeps_clauses = file
-        .clauses
+    let keeps_clauses = file.clauses.iter().all(|clause| clause
+        .literals
         .iter()
-        .all(|clause| clause.literals.iter().any(|literal| holds(*literal, sheet, sheet)));
+        .any(|literal| holds(*literal, sheet, sheet)));
     keeps_clauses
         && acts.iter().all(|act| keeps(*act, sheet))
         && solve(file, sheet) == Verdict::Lawful
@@ -97,7 +97,11 @@ pub struct Expected {
 }
 
 // Calls the acts, and gives their lines and how many are refused.
-fn call_acts(heap: Global, acts: &[Act], docket: &mut Docket) -> Result<(String, usize), AllocError> {
+fn call_acts(
+    heap: Global,
+    acts: &[Act],
+    docket: &mut Docket,
+) -> Result<(String, usize), AllocError> {
     let mut lines = String::new(heap);
     let mut refused = 0usize;
     for act in acts {
