@@ -12,6 +12,8 @@ mod runs;
 mod script;
 mod table;
 mod tally;
+#[cfg(test)]
+mod tests;
 
 use limits::{run_limits, run_room};
 use runs::run_many;

@@ -18,8 +18,18 @@ fn check_listing(
     records: &[u8],
     lines: &str,
 ) -> Result<(), Fail> {
+    check_file(rt, head(house), records, lines)
+}
+
+// The file with this head and these records is listed so.
+fn check_file(
+    rt: &(impl Abort + AllocGlobal),
+    head: [u8; 15],
+    records: &[u8],
+    lines: &str,
+) -> Result<(), Fail> {
     let heap = rt.alloc();
-    let mut bytes = head(house).to_vec(heap)?;
+    let mut bytes = head.to_vec(heap)?;
     bytes.extend_from_slice(records)?;
     let file = Rc::new(heap, read(heap, bytes.as_slice())?)?;
     let text = FileText { file: &file };
@@ -50,6 +60,28 @@ fn broken_house(rt: HostRuntime) -> Result<(), Fail> {
     let records = b"\x0f\0\0\0\x02\0\0\x01\0\0\0\x02\0\0\0\x01\x81\x05\0";
     let lines = "head: 2 marks, house sheet {}\nrule 0: 1 to 2 of {not 1=5}\n\
         house sheet: broken by rule 0: 1 to 2 of {not 1=5}\nsheet cost 0 0 0 0 0 0 0 0 off 0\n";
+    check_listing(&rt, 0, records, lines)
+}
+
+// The lowest mark of all and the highest, in the house sheet and in a struck one. Rule 0 supports all marks.
+#[test]
+fn first_and_last_mark(rt: HostRuntime) -> Result<(), Fail> {
+    let head = *b"\x0b\0\0\0\x01\0\x40\x01\0\0\0\0\0\0\x80";
+    let records = b"\x12\0\0\0\x02\0\0\0\0\0\0\xff\xff\xff\xff\x02\0\x01\0\x3f\x01\0\
+        \x0b\0\0\0\x05\0\x03\x01\0\0\0\0\0\0\x80";
+    let lines = "head: 64 marks, house sheet {0, 63}\nrule 0: 0 or more of {0=1, 63=1}\n\
+        act: strike {0, 63}\nhouse sheet: lawful\nsheet 0 63 cost 0 0 0 0 0 0 0 0 off 0\n";
+    check_file(&rt, head, records, lines)
+}
+
+// Rule 0 holds, and rule 1 does not.
+#[test]
+fn broken_by_second(rt: HostRuntime) -> Result<(), Fail> {
+    let records = b"\x0c\0\0\0\x02\0\0\0\0\0\0\xff\xff\xff\xff\0\
+        \x0f\0\0\0\x02\0\0\x01\0\0\0\x02\0\0\0\x01\x81\x05\0";
+    let lines =
+        "head: 2 marks, house sheet {}\nrule 0: 0 or more of {}\nrule 1: 1 to 2 of {not 1=5}\n\
+        house sheet: broken by rule 1: 1 to 2 of {not 1=5}\nsheet cost 0 0 0 0 0 0 0 0 off 0\n";
     check_listing(&rt, 0, records, lines)
 }
 

@@ -39,6 +39,21 @@ pub fn all_marks(heap: Global) -> Result<Vec<u8>, AllocError> {
     Ok(file)
 }
 
+// As many records of each kind as there can be: rules that always hold, clauses that the empty sheet keeps, wishes for it,
+// and undos that are refused.
+pub fn fullest_file(heap: Global) -> Result<Vec<u8>, AllocError> {
+    let mut file = b"\x0b\0\0\0\x01\0\x01\0\0\0\0\0\0\0\0".to_vec(heap)?;
+    let rule = b"\x0f\0\0\0\x02\0\0\0\0\0\0\xff\xff\xff\xff\x01\0\x01\0";
+    file.extend_from_slice(rule.repeat(heap, 256)?.as_slice())?;
+    let clause = b"\x04\0\0\0\x03\0\x01\x80";
+    file.extend_from_slice(clause.repeat(heap, 256)?.as_slice())?;
+    let wish = b"\x07\0\0\0\x04\0\x01\xf0\xd8\x01\x80";
+    file.extend_from_slice(wish.repeat(heap, 256)?.as_slice())?;
+    let undo = b"\x03\0\0\0\x05\0\x04";
+    file.extend_from_slice(undo.repeat(heap, 256)?.as_slice())?;
+    Ok(file)
+}
+
 // The report on the file has these lines.
 pub fn check_report(rt: &(impl Abort + AllocGlobal), file: &[u8], lines: &str) -> Result<(), Fail> {
     let mut buffer = vec![in rt.alloc(); 0; LEAST_BUFFER]?;

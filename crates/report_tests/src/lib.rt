@@ -9,3 +9,5 @@ mod buffers;
 mod build;
 #[cfg(test)]
 mod lines;
+#[cfg(test)]
+mod verdicts;

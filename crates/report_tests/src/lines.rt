@@ -57,3 +57,12 @@ fn longest_report(rt: HostRuntime) -> Result<(), Fail> {
     assert_eq!(rt; lines.len(), 3081);
     check_report(&rt, longest_file(heap)?.as_slice(), lines.as_str())
 }
+
+// A file with as many records of each kind as there can be is not too much for the memory.
+#[test]
+fn fullest_file_reported(rt: HostRuntime) -> Result<(), Fail> {
+    let heap = rt.alloc();
+    let mut lines = "refused 26\n".repeat(heap, 256)?;
+    lines.push_str("sheet cost 0 0 0 0 0 0 0 -2560000 off 0\n")?;
+    check_report(&rt, fullest_file(heap)?.as_slice(), lines.as_str())
+}
