@@ -44,11 +44,11 @@ pub record Underway (f : WishModel → ℤ) (ws : List Wish) (i : ℕ) (sums : L
 module _ (f : WishModel → ℤ) (xs : List Wish) where
   pub underway_none : Underway f xs 0 (pos 0 ∷ pos 0 ∷ pos 0 ∷ pos 0 ∷ pos 0 ∷ pos 0 ∷ pos 0 ∷ pos 0 ∷ [])
   underway_none = record {
-      levels = refl;
-      parts = λ n lt. let z = zeros n lt in omega (arith, ints);
-      least = λ n lt. let z = zeros n lt in omega (arith, ints);
-      most = λ n lt. let z = zeros n lt in omega (arith, ints);
-    }
+    levels = refl;
+    parts = λ n lt. let z = zeros n lt in omega (arith, ints);
+    least = λ n lt. let z = zeros n lt in omega (arith, ints);
+    most = λ n lt. let z = zeros n lt in omega (arith, ints);
+  }
     where
       zeros : (n : ℕ) → n < 8 → get_or (pos 0 ∷ pos 0 ∷ pos 0 ∷ pos 0 ∷ pos 0 ∷ pos 0 ∷ pos 0 ∷ pos 0 ∷ []) n (pos 0) ≡ pos 0
       zeros zero lt = refl
@@ -66,19 +66,22 @@ module _ (f : WishModel → ℤ) (xs : List Wish) where
     pub underway_more : (sums : List ℤ) (k : ℕ) (w : ℤ) → k ≡ 8 - x.level → w ≡ f (wish_of x) → SFits w16 w → Underway f xs i sums
         → Underway f xs (i + 1) (set sums k (get_or sums k (pos 0) +ℤ w))
     underway_more sums k w at costs fits u = record {
-        levels = length-set sums k _ ∙ u.levels;
-        parts = λ n ln. (here n ln).0;
-        least = λ n ln. (here n ln).1;
-        most = λ n ln. (here n ln).2;
-      }
+      levels = length-set sums k _ ∙ u.levels;
+      parts = λ n ln. (here n ln).0;
+      least = λ n ln. (here n ln).1;
+      most = λ n ln. (here n ln).2;
+    }
       where
         low : 1 ≤ x.level
         low = x.low
+
         high : x.level ≤ 8
         high = x.high
+
         Good : ℕ → ℤ → Type 0
         Good n v = (v +ℤ sum_at f (map wish_of (drop (i + 1) xs)) (8 - n) ≡ sum_at f (map wish_of xs) (8 - n))
             × (neg_ℤ (pos (32768 * (i + 1))) ≤ℤ v) × (v ≤ℤ pos (32768 * (i + 1)))
+
         hit : (n : ℕ) → n < 8 → n ≡ k → Good n (get_or sums n (pos 0) +ℤ w)
         hit n ln e =
             let level : x.level ≡ 8 - n = omega arith in
@@ -87,6 +90,7 @@ module _ (f : WishModel → ℤ) (xs : List Wish) where
             let low = u.least n ln in
             let high = u.most n ln in
             (omega (arith, ints), omega (arith, ints), omega (arith, ints))
+
         miss : (n : ℕ) → n < 8 → (n ≡ k → ⊥) → Good n (get_or sums n (pos 0))
         miss n ln ne =
             let part = sum_miss f (8 - n) xs ys same i x lt is (λ e. ne (omega arith)) in
@@ -94,10 +98,11 @@ module _ (f : WishModel → ℤ) (xs : List Wish) where
             let low = u.least n ln in
             let high = u.most n ln in
             (omega (arith, ints), omega (arith, ints), omega (arith, ints))
+
         here : (n : ℕ) → n < 8 → Good n (get_or (set sums k (get_or sums k (pos 0) +ℤ w)) n (pos 0))
         here n ln = ⊎_elim
             (λ e. let q = eqb-true n k e in
-                subst (Good n) (sym (get_or-set_at sums k n _ (pos 0) q (omega (arith, u.levels))) ) (subst (λ j. Good n (get_or sums j (pos 0) +ℤ w)) q (hit n ln q)))
+            subst (Good n) (sym (get_or-set_at sums k n _ (pos 0) q (omega (arith, u.levels)))) (subst (λ j. Good n (get_or sums j (pos 0) +ℤ w)) q (hit n ln q)))
             (λ e. let q = eqb-false n k e in subst (Good n) (sym (get_or-set_other sums k n _ (pos 0) q)) (miss n ln q))
             (cases_Bool (eqb n k))
 

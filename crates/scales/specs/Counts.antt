@@ -1,15 +1,12 @@
 -- Where two words differ, and the laws of the distance.
-use Rattle.std.specs.Prelude.{◌≡◌, ℕ, zero, suc, ◌+◌, ◌/◌, ◌%◌, ◌^◌, ◌<◌, ◌≤◌, Bool, true, false, cond, not, ◌&&◌, ◌||◌, ◌==◌, bit_xor, nat_eq, nat_lt, refl}
-use Rattle.std.proofs.Common.{sym, ap, ap₂, ◌∙◌, inl, inr, ⊎_elim, arith}
-use Rattle.std.proofs.Math.Nat.{pow-succ'}
+use Rattle.std.specs.Prelude.{◌≡◌, ℕ, ◌+◌, ◌/◌, ◌%◌, ◌^◌, ◌<◌, true, cond, not, ◌&&◌, ◌||◌, ◌==◌, bit_xor, nat_eq, nat_lt}
+use Rattle.std.proofs.Common.{sym, ap, ◌∙◌, inl, inr, ⊎_elim, arith}
 use Rattle.std.proofs.lemmas.Nat.{xor_shr}
 use Rattle.std.specs.Int.Bits.{xor_add_and}
-use Rattle.std.specs.Int.Count.{ones, ones_in, ones_step}
 use Rattle.std.proofs.lemmas.Bool.Decides.{nat_tests}
 use Rattle.std.proofs.lemmas.Bool.{cases_order, lt-ltb, le-ltb, ltb-true, and_parts, or_cases, or_left, or_right}
 use Rattle.sheets.specs.Sheets.{width, has, Part, Within}
 use Rattle.sheets.specs.Scaling.{ScaleLaws}
-use Rattle.sheets.specs.Bits.{has_zero, has_suc}
 use Rattle.sheets.specs.Parts.{apart_turned}
 use Rattle.sheets.specs.Scales.{order_from}
 use Rattle.sheets.specs.Counting.{marks_same, marks_le}

@@ -1,5 +1,5 @@
 -- What two words say of the literals that they stand for.
-use Rattle.std.specs.Prelude.{◌≡◌, ℕ, zero, suc, ◌+◌, ◌-◌, ◌^◌, ◌<◌, ◌≤◌, Bool, true, false, cond, not, ◌&&◌, ◌||◌, List, [], ◌∷◌, ◌++◌, ◌==◌, bit_and, bit_or, nat_lt, fold}
+use Rattle.std.specs.Prelude.{◌≡◌, ℕ, ◌+◌, ◌^◌, ◌<◌, Bool, true, false, cond, not, ◌&&◌, ◌||◌, List, [], ◌∷◌, ◌++◌, ◌==◌, bit_and, bit_or, nat_lt, fold}
 use Rattle.std.proofs.Common.{sym, refl, ap, ap₂, ◌∙◌, ⊎_elim, append_assoc, append-nil, subst, arith}
 use Rattle.std.specs.Int.Bits.{and_lt}
 use Rattle.std.specs.Int.Count.{ones}
@@ -8,13 +8,13 @@ use Rattle.std.specs.List.{list_all, list_any, count_by}
 use Rattle.std.proofs.lemmas.List.Sums.{sum_by-cons}
 use Rattle.std.proofs.lemmas.List.Folds.{list_any-append}
 use Rattle.std.proofs.lemmas.Bool.Decides.{nat_tests}
-use Rattle.std.proofs.lemmas.Bool.{both_ways, cases_Bool, cases_lt, ltb-true, lt-ltb, eqb-true, eq-eqb, ne_eqb, and_parts, and_left, and_right, or_cases, or_left, or_right, not-true}
+use Rattle.std.proofs.lemmas.Bool.{both_ways, cases_Bool, ltb-true, lt-ltb, eqb-true, eq-eqb, ne_eqb, and_parts, or_cases, or_left, or_right, not-true}
 use Rattle.sheets.specs.declared.literals.Literal.{Literal}
 use Rattle.sheets.specs.declared.literal_sets.LiteralSet.{LiteralSet}
 use Rattle.sheets.specs.Sheets.{width, has, others}
 use Rattle.sheets.specs.Literals.{held}
 use Rattle.sheets.specs.LiteralSets.{Stands, MarksInWidth, has_literal, is_plain, is_not, distinct, with_one, with_literal}
-use Rattle.sheets.specs.Bits.{has_none, has_high, has_and, has_or, has_one, same_marks}
+use Rattle.sheets.specs.Bits.{has_none, has_and, has_or, has_one, same_marks}
 use Rattle.sheets.specs.Parts.{others_word, has_others}
 use Rattle.sheets.specs.Counting.{marks_where, marks_none, marks_more, ones_where}
 
@@ -57,16 +57,18 @@ pub stands_more : (s : LiteralSet) (l : Literal) (done : List Literal) → nat_l
     → Stands (with_literal s l).plain (with_literal s l).nots (done ++ l ∷ [])
 unfolding with_literal
 stands_more s l done t h = record {
-    marks = all_last (λ k. nat_lt k.mark width) done l h.marks t;
-    plain_marks = λ i. plain l.negated i ∙ ap (λ b. b || is_plain i l) (h.plain_marks i) ∙ sym (any_last (is_plain i) done l);
-    not_marks = λ i. nots l.negated i ∙ ap (λ b. b || is_not i l) (h.not_marks i) ∙ sym (any_last (is_not i) done l);
-  }
+  marks = all_last (λ k. nat_lt k.mark width) done l h.marks t;
+  plain_marks = λ i. plain l.negated i ∙ ap (λ b. b || is_plain i l) (h.plain_marks i) ∙ sym (any_last (is_plain i) done l);
+  not_marks = λ i. nots l.negated i ∙ ap (λ b. b || is_not i l) (h.not_marks i) ∙ sym (any_last (is_not i) done l);
+}
   where
     lt : l.mark < width
     lt = ltb-true l.mark width t
+
     plain : (b : Bool) (i : ℕ) → has (cond b s.plain (with_one s.plain l.mark)) i ≡ (has s.plain i || (not b && l.mark == i))
     plain true i = sym (or_false (has s.plain i))
     plain false i = has_with s.plain l.mark i lt
+
     nots : (b : Bool) (i : ℕ) → has (cond b (with_one s.nots l.mark) s.nots) i ≡ (has s.nots i || (b && l.mark == i))
     nots true i = has_with s.nots l.mark i lt
     nots false i = sym (or_false (has s.nots i))
@@ -139,8 +141,10 @@ module _ (f g : ℕ → Bool) where
     where
       p : Bool
       p = list_any (is_plain i) ls
+
       n : Bool
       n = list_any (is_not i) ls
+
       go : (b u v p n : Bool) → ((((not b && true) || p) && u) || (((b && true) || n) && v)) ≡ (cond b v u || ((p && u) || (n && v)))
       go true true true true n = refl
       go true true true false n = refl
@@ -153,14 +157,17 @@ module _ (f g : ℕ → Bool) where
       go false true v p n = refl
       go false false v true n = refl
       go false false v false n = refl
+
       stay : (b u v p n : Bool) → ((((not b && false) || p) && u) || (((b && false) || n) && v)) ≡ ((p && u) || (n && v))
       stay true u v p n = refl
       stay false u v p n = refl
+
       other : (l.mark == i) ≡ false → bit f g (l ∷ ls) i ≡ ((l.mark == i && pick f g l) || bit f g ls i)
       other e =
           ap (λ c. (((not l.negated && c) || p) && f i) || (((l.negated && c) || n) && g i)) e
           ∙ stay l.negated (f i) (g i) p n
           ∙ sym (ap (λ c. (c && pick f g l) || bit f g ls i) e)
+
       same : (l.mark == i) ≡ true → bit f g (l ∷ ls) i ≡ ((l.mark == i && pick f g l) || bit f g ls i)
       same e =
           let here : i ≡ l.mark = sym (eqb-true l.mark i e) in
@@ -186,10 +193,13 @@ module _ (f g : ℕ → Bool) where
   some_bit (l ∷ ls) m e =
       let b = and_parts (nat_lt l.mark width) (list_all (λ k. nat_lt k.mark width) ls) m in
       ⊎_elim
-      (λ t. (l.mark, ltb-true l.mark width b.0,
-          bit_more l ls l.mark ∙ or_left (l.mark == l.mark && pick f g l) (bit f g ls l.mark) (ap₂ (λ c d. c && d) (eq-eqb l.mark l.mark (omega arith)) t)))
+      (λ t. (
+        l.mark,
+        ltb-true l.mark width b.0,
+        bit_more l ls l.mark ∙ or_left (l.mark == l.mark && pick f g l) (bit f g ls l.mark) (ap₂ (λ c d. c && d) (eq-eqb l.mark l.mark (omega arith)) t),
+      ))
       (λ t. let r = some_bit ls b.1 t in
-          (r.0, r.1, bit_more l ls r.0 ∙ or_right (l.mark == r.0 && pick f g l) (bit f g ls r.0) r.2))
+      (r.0, r.1, bit_more l ls r.0 ∙ or_right (l.mark == r.0 && pick f g l) (bit f g ls r.0) r.2))
       (or_cases (pick f g l) (list_any (pick f g) ls) e)
 
   -- the word is 0 exactly where no literal passes
@@ -197,7 +207,7 @@ module _ (f g : ℕ → Bool) where
       → (w == 0) ≡ not (list_any (pick f g) ls)
   word_none ls w m word same = ⊎_elim
       (λ t. let r = some_bit ls m t in
-          ne_eqb w 0 (λ e. both_ways (has w r.0) (ap (λ q. has q r.0) e ∙ has_none r.0) (same r.0 r.1 ∙ r.2)) ∙ sym (ap not t))
+      ne_eqb w 0 (λ e. both_ways (has w r.0) (ap (λ q. has q r.0) e ∙ has_none r.0) (same r.0 r.1 ∙ r.2)) ∙ sym (ap not t))
       (λ e. eq-eqb w 0 (same_marks width w 0 word (pow_pos width) (λ i lt. same i lt ∙ no_bit ls i e ∙ sym (has_none i))) ∙ sym (ap not e))
       (cases_Bool (list_any (pick f g) ls))
 
@@ -231,9 +241,11 @@ module _ (p n t a : ℕ) (ls : List Literal) (pw : p < 2 ^ width) (nw : n < 2 ^ 
       turn true u v = refl
       turn false true v = refl
       turn false false v = refl
+
       split : (b c : Bool) → not (b || c) ≡ (not b && not c)
       split true c = refl
       split false c = refl
+
       none_unheld : (ls : List Literal) → not (list_any (pick (λ i. not (has t i)) (has a)) ls) ≡ list_all (held t a) ls
       none_unheld [] = refl
       none_unheld (l ∷ ls) =
@@ -253,8 +265,8 @@ module _ (p n t a : ℕ) (ls : List Literal) (pw : p < 2 ^ width) (nw : n < 2 ^ 
       go : (b : Bool) → l.mark < width → not (list_any (cond b (is_not l.mark) (is_plain l.mark)) ks) ≡ true
           → marks_where width (λ i. list_any (is_plain i) ks && has t i) + marks_where width (λ i. list_any (is_not i) ks && not (has a i)) ≡ count_by (held t a) ks
           → marks_where width (λ i. ((not b && l.mark == i) || list_any (is_plain i) ks) && has t i)
-              + marks_where width (λ i. ((b && l.mark == i) || list_any (is_not i) ks) && not (has a i))
-              ≡ cond (cond b (not (has a l.mark)) (has t l.mark)) 1 0 + count_by (held t a) ks
+          + marks_where width (λ i. ((b && l.mark == i) || list_any (is_not i) ks) && not (has a i))
+          ≡ cond (cond b (not (has a l.mark)) (has t l.mark)) 1 0 + count_by (held t a) ks
       go true lt fresh rest =
           let more = marks_more width l.mark (λ i. list_any (is_not i) ks) (λ i. not (has a i)) lt (not-true _ fresh) in
           omega (arith, more, rest)
@@ -266,9 +278,9 @@ module _ (p n t a : ℕ) (ls : List Literal) (pw : p < 2 ^ width) (nw : n < 2 ^ 
   count_held d =
       ap₂ (λ x y. x + y)
       (ones_where (bit_and p t) (λ i. list_any (is_plain i) ls && has t i) (and_lt width p t pw tw)
-          (λ i lt. has_and p t i ∙ ap (λ b. b && has t i) (h.plain_marks i)))
+      (λ i lt. has_and p t i ∙ ap (λ b. b && has t i) (h.plain_marks i)))
       (ones_where (bit_and n (others a)) (λ i. list_any (is_not i) ls && not (has a i)) (and_lt width n (others a) nw (others_word a aw))
-          (λ i lt. has_and n (others a) i ∙ ap₂ (λ b c. b && c) (h.not_marks i) (has_others a aw i lt)))
+      (λ i lt. has_and n (others a) i ∙ ap₂ (λ b c. b && c) (h.not_marks i) (has_others a aw i lt)))
       ∙ counts ls h.marks d
 
 pub not_not : (b : Bool) → not (not b) ≡ b

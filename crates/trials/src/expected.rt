@@ -64,6 +64,30 @@ impl fmt::Display for ActLine {
     }
 }
 
+// Displays the marks of a sheet upward, each after a space.
+#[derive(Clone, Copy)]
+struct Marks(Sheet);
+
+impl fmt::Display for Marks {
+    fn fmt<W: fmt::Write>(&self, f: &mut Formatter<W>) -> fmt::Result {
+        for mark in (0..WIDTH).filter(|mark| is_in(self.0, *mark)) {
+            write!(f, " {mark}")?;
+        }
+        Ok(())
+    }
+}
+
+impl fmt::Display for Cost {
+    fn fmt<W: fmt::Write>(&self, f: &mut Formatter<W>) -> fmt::Result {
+        f.write_str("cost")?;
+        for sum in &self.sums {
+            write!(f, " {sum}")?;
+        }
+        let distance = self.distance;
+        write!(f, " off {distance}")
+    }
+}
+
 // Displays the line of the sheet with its cost, or that there is none.
 #[derive(Clone, Copy)]
 struct SheetLine(Option<(Sheet, Cost)>);
@@ -73,16 +97,8 @@ impl fmt::Display for SheetLine {
         let Some((sheet, cost)) = self.0 else {
             return f.write_str("no sheet\n");
         };
-        f.write_str("sheet")?;
-        for mark in (0..WIDTH).filter(|mark| is_in(sheet, *mark)) {
-            write!(f, " {mark}")?;
-        }
-        f.write_str(" cost")?;
-        for sum in &cost.sums {
-            write!(f, " {sum}")?;
-        }
-        let distance = cost.distance;
-        writeln!(f, " off {distance}")
+        let marks = Marks(sheet);
+        writeln!(f, "sheet{marks} {cost}")
     }
 }
 

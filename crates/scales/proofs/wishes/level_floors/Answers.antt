@@ -1,4 +1,4 @@
-use Rattle.std.proofs.Common.{◌≡◌, ◌<◌, pos, ◌+ℤ◌, get_or, vec_items, sym, ap, ◌∙◌, arith, w16, w32, SFits, rules}
+use Rattle.std.proofs.Common.{◌<◌, pos, ◌+ℤ◌, get_or, vec_items, ◌∙◌, arith, w16, w32, SFits, rules}
 use Rattle.std.proofs.lemmas.Int.{ints, to_z-of_z}
 use Rattle.rulefile.proofs.Fits.{fit_parts}
 use Rattle.scales.specs.Wishes.{wish_floor}
@@ -27,8 +27,8 @@ loop-wish-preserved c =
     let weight-wide : SFits w32 c.from.result = omega (arith, ints) in
     let total : SFits w32 (get_or c.loop-wish.sums c.from-in-loop-wish.result (pos 0) +ℤ c.from.result) = omega (arith, ints) in
     simp (to_z-of_z, sum, weight-wide, total) (underway_more (wish_floor c.args.part.present c.args.part.absent) (vec_items c.args.file.now.wishes)
-        c.as_slice-wish-items.result.now c.as_slice-wish-items.ensures.value c.loop-wish.wish-index c.wish-item.result c.loop-wish-test.true c.wish-item.is
-        c.loop-wish.sums c.from-in-loop-wish.result c.from.result c.from-in-loop-wish.ensures (c.from.ensures ∙ to_z-of_z w16 c.wish_floor.result floor ∙ c.wish_floor.ensures) weight c.loop-wish.invariant)
+    c.as_slice-wish-items.result.now c.as_slice-wish-items.ensures.value c.loop-wish.wish-index c.wish-item.result c.loop-wish-test.true c.wish-item.is
+    c.loop-wish.sums c.from-in-loop-wish.result c.from.result c.from-in-loop-wish.ensures (c.from.ensures ∙ to_z-of_z w16 c.wish_floor.result floor ∙ c.wish_floor.ensures) weight c.loop-wish.invariant)
 
 pub returns : goal.returns
 returns c = underway_all (wish_floor c.args.part.present c.args.part.absent) (vec_items c.args.file.now.wishes)

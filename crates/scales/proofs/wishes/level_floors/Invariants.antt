@@ -1,5 +1,4 @@
-use Rattle.std.proofs.Common.{map, drop, vec_items}
-use Rattle.rulefile.specs.Model.{wish_of}
+use Rattle.std.proofs.Common.{vec_items}
 use Rattle.scales.specs.Wishes.{wish_floor}
 use Rattle.scales.proofs.Steps.{Underway}
 use Rattle.scales.proofs.wishes.level_floors.Given as goal

@@ -1,4 +1,4 @@
-use Rattle.std.proofs.Common.{◌≡◌, Some, vec_items, ap, sym, ◌∙◌, subst, arith}
+use Rattle.std.proofs.Common.{vec_items, ap, sym, ◌∙◌, subst, arith}
 use Rattle.sheets.specs.LiteralSets.{MarksInWidth}
 use Rattle.rulefile.specs.Uniform.{literals_of, AreUniform}
 use Rattle.rulefile.proofs.Sound.{counted_in_range}

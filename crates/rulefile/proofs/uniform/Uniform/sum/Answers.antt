@@ -1,4 +1,4 @@
-use Rattle.std.proofs.Common.{◌≡◌, ◌*◌, ap, sym, ◌∙◌, arith}
+use Rattle.std.proofs.Common.{◌*◌, ap, ◌∙◌, arith}
 use Rattle.sheets.specs.Literals.{held}
 use Rattle.rulefile.specs.Uniform.{literals_of}
 use Rattle.rulefile.proofs.Counted.{counted_sum, product_fits}

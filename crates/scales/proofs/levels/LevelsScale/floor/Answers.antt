@@ -1,7 +1,6 @@
 use Rattle.std.proofs.Common.{List, ℤ, ap, ◌∙◌}
 use Rattle.rulefile.specs.declared.files.RuleFile.{RuleFile}
 use Rattle.rulefile.specs.Answers.{file_of}
-use Rattle.scales.specs.declared.cost.LevelCost.{LevelCost}
 use Rattle.scales.specs.Wishes.{wish_floor, sum_at, top, down_from}
 use Rattle.scales.proofs.levels.LevelsScale.floor.Goals as goal
 
