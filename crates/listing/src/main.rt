@@ -1,6 +1,9 @@
 // Lists a rule file that comes on standard input, in words.
 #![tactic(auto)]
 
+ghost use Rattle.std.specs.Prelude.{◌≡◌, IfOk, IfSome};
+ghost use Rattle.rulefile.specs.Format.{decode};
+
 mod house;
 #[cfg(test)]
 mod tests;
@@ -8,15 +11,18 @@ mod text;
 
 use house::HouseText;
 use rulefile::{BadFile, ReadError, RuleFile, input_limit, read};
+use std::alloc::Global;
 use std::io::Read;
 use std::rc::Rc;
-use text::FileText;
+use text::{FileText, RefusalText};
 
-// Three lines that `kiosk` has too: a call of a library would owe a promise on what a reader gives.
-fn input(rt: &HostRuntime) -> anyhow::Result<Vec<u8>> {
-    let mut bytes = Vec::new(rt.alloc());
-    rt.stdin().take(input_limit()).read_to_end(&mut bytes)?;
-    Ok(bytes)
+// As many bytes of the reader as mean what all of them do.
+fn read_input<R: Read + Drop>(heap: Global, input: R) -> anyhow::Result<Vec<u8>>
+    ensures { IfOk result (λ file. IfSome (R.remaining input) (λ bytes. decode file.items ≡ decode bytes)) }
+{
+    let mut file = Vec::new(heap);
+    input.take(input_limit()).read_to_end(&mut file)?;
+    Ok(file)
 }
 
 // The records of the file, and what is said of its house sheet.
@@ -28,16 +34,14 @@ fn list_file(rt: &HostRuntime, file: RuleFile) -> anyhow::Result<()> {
     Ok(())
 }
 
-// The refusal, and what it means.
 fn list_refusal(rt: &HostRuntime, bad: BadFile) -> anyhow::Result<()> {
-    let words = bad.why;
-    println!(rt; "{bad}")?;
-    println!(rt; "{words}")?;
+    let text = RefusalText(bad);
+    print!(rt; "{text}")?;
     Ok(())
 }
 
 fn run(rt: &HostRuntime) -> anyhow::Result<()> {
-    let bytes = input(rt)?;
+    let bytes = read_input(rt.alloc(), rt.stdin())?;
     match read(rt.alloc(), bytes.as_slice()) {
         Ok(file) => list_file(rt, file),
         Err(ReadError::Refused(bad)) => list_refusal(rt, bad),

@@ -1,6 +1,6 @@
 // Lines that the stored file does not show.
 use crate::house::HouseText;
-use crate::text::FileText;
+use crate::text::{FileText, RefusalText};
 use rulefile::{ReadError, read};
 use std::process::Abort;
 use std::rc::Rc;
@@ -145,4 +145,18 @@ fn refusals_of_bodies(rt: HostRuntime) -> Result<(), Fail> {
         many.as_slice(),
         "there are more than 256 records of this kind",
     )
+}
+
+// Both lines, of a record that is not the first.
+#[test]
+fn refused_file(rt: HostRuntime) -> Result<(), Fail> {
+    let heap = rt.alloc();
+    let mut bytes = head(0).to_vec(heap)?;
+    bytes.extend_from_slice(&[2, 0, 0, 0, 9, 0])?;
+    let Err(ReadError::Refused(bad)) = read(heap, bytes.as_slice()) else {
+        return Err(Fail::new("the file is not refused"));
+    };
+    let lines = "refused 14 at 15\na record's kind is not from 1 to 5\n";
+    assert_eq!(rt; RefusalText(bad).to_string(heap)?.as_str(), lines);
+    Ok(())
 }

@@ -1,7 +1,7 @@
 // A rule file as text, a line for each record, in file order. docs/TEXT.md has the grammar.
 ghost use Rattle.std.specs.Iterator.{IsFinite};
 
-use rulefile::{Act, Clause, Constraint, Element, Kind, Rule, RuleFile, Wish};
+use rulefile::{Act, BadFile, Clause, Constraint, Element, Kind, Rule, RuleFile, Wish};
 use sheets::{Literal, Sheet, WIDTH, has_mark};
 use std::fmt::Formatter;
 use std::iter::Zip;
@@ -191,5 +191,18 @@ impl fmt::Display for FileText<'_> {
             f.write_str("\n")?;
         }
         Ok(())
+    }
+}
+
+// Displays the refusal of a file, and in a second line what it means.
+#[derive(Clone, Copy)]
+pub struct RefusalText(pub BadFile);
+
+impl fmt::Display for RefusalText {
+    fn fmt<W: fmt::Write>(&self, f: &mut Formatter<W>) -> fmt::Result {
+        let bad = self.0;
+        let words = bad.why;
+        writeln!(f, "{bad}")?;
+        writeln!(f, "{words}")
     }
 }
