@@ -6,6 +6,7 @@ use Rattle.sheets.specs.LiteralSets.{Stands, distinct}
 use Rattle.rulefile.specs.declared.constraints.Element.{Element}
 use Rattle.rulefile.specs.declared.uniform.Uniform.{Uniform}
 
+-- the literals of elements, in their order
 abbrev pub literals_of : List Element → List Literal
 literals_of es = map (λ (e : Element). e.literal) es
 

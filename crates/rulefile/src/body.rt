@@ -166,6 +166,7 @@ impl Field for Constraint {
     }
 }
 
+// The high bound that a field says, if it says one.
 fn high_of(top: u32) -> Option<u32>
     ensures { result ≡ high_of top }
 {
@@ -225,6 +226,7 @@ impl Field for Clause {
     }
 }
 
+// The weight of a wish is in its range.
 fn weight_fits(weight: i16) -> bool
     ensures { result ≡ is_weight weight }
 {

@@ -12,7 +12,9 @@ use sheets::{Interpretation, LiteralSet};
 // The weight and the literals of elements that all have this weight, and of which none stands twice.
 #[derive(Clone, Copy, Debug, PartialEq, Eq)]
 pub struct Uniform {
+    // The weight of each.
     weight: u16,
+    // The literals of all.
     literals: LiteralSet,
 }
 

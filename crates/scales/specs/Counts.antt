@@ -1,4 +1,4 @@
--- Where two words differ, and the laws of the distance.
+-- Lemmas; no contract names what stands here. Where two words differ, and the laws of the distance.
 use Rattle.std.specs.Prelude.{◌≡◌, ℕ, ◌+◌, ◌/◌, ◌%◌, ◌^◌, ◌<◌, true, cond, not, ◌&&◌, ◌||◌, ◌==◌, bit_xor, nat_eq, nat_lt}
 use Rattle.std.proofs.Common.{sym, ap, ◌∙◌, inl, inr, ⊎_elim, arith}
 use Rattle.std.proofs.lemmas.Nat.{xor_shr}

@@ -9,10 +9,12 @@ ghost use Rattle.sheets.specs.LiteralSets.{Stands, MarksInWidth, has_literal, wi
 use crate::literals::{Interpretation, Literal};
 use crate::marks::{Sheet, has_mark, with_mark};
 
-// The marks of some literals: those that stand plain, and those that stand under "not".
+// Some literals, by their marks.
 #[derive(Clone, Copy, Debug, PartialEq, Eq)]
 pub struct LiteralSet {
+    // The marks that stand plain.
     plain: Sheet,
+    // The marks that stand under "not".
     nots: Sheet,
 }
 
