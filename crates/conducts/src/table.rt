@@ -1,5 +1,5 @@
 // A judge that allows by a table.
-ghost use Rattle.std.specs.Prelude.{◌≡◌, ◌≤◌, true, IfSome};
+ghost use Rattle.std.specs.Prelude.{◌≡◌, ◌≤◌, true, MatchOption};
 ghost use Rattle.std.specs.List.{list_all, list_any};
 ghost use Rattle.sheets.specs.Sheets.{width};
 ghost use Rattle.conducts.specs.Tables.{is_below, lies_within, table_of};
@@ -22,7 +22,7 @@ pub struct Table {
 impl Table {
     // None where the count is not from 1 to `WIDTH`, or a sheet has a mark that is not below it.
     pub fn new(count: u8, listed: Vec<Sheet>) -> Option<Table>
-        ensures { IfSome result (λ table. (table.count ≡ count) × (table.listed ≡ listed)) }
+        ensures { MatchOption result ((1 ≤ count) → (count ≤ width) → list_all (is_below count) listed.items ≡ true → ⊥) (λ table. (table.count ≡ count) × (table.listed ≡ listed)) }
     {
         if (1..=WIDTH).contains(&count) && are_below(listed.as_slice(), count) {
             Some(Table { count, listed })
