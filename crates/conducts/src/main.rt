@@ -3,6 +3,7 @@
 #![tactic(auto)]
 
 mod brute;
+mod direct;
 mod follow;
 mod ledger;
 mod limits;
@@ -16,7 +17,7 @@ mod tally;
 mod tests;
 
 use limits::{run_limits, run_room};
-use runs::run_many;
+use runs::{run_directly, run_many};
 
 // Where the generator begins.
 const SEED: u64 = 5;
@@ -25,7 +26,8 @@ fn run(rt: &HostRuntime) -> anyhow::Result<()> {
     let tally = run_many(rt, SEED)?;
     tally.print_answers(rt)?;
     run_limits(rt)?;
-    run_room(rt)
+    run_room(rt)?;
+    run_directly(rt, SEED)
 }
 
 fn main(rt: HostRuntime) -> anyhow::Result<()> {

@@ -1,12 +1,13 @@
 // Orders over tables and numbers that are drawn by chance.
-use crate::brute::{Case, Cost};
+use crate::brute::{Case, Cost, OpenSheets};
+use crate::direct::settle_by_advances;
 use crate::follow::follow;
 use crate::number::Number;
 use crate::random::Random;
 use crate::script::Script;
 use crate::table::{Table, table_of};
 use crate::tally::Tally;
-use orders::conduct;
+use orders::{Act, conduct};
 use sheets::{Both, FirstThen, Judge, Scale, Sheet, first_marks};
 use std::alloc::{AllocError, Global};
 
@@ -102,6 +103,48 @@ impl Runs {
         self.run_order(judge, scale, &case)?;
         Ok(())
     }
+}
+
+impl Runs {
+    // An order over a table, with a mark pinned that may be one too high, by its own calls.
+    fn run_direct(&mut self) -> anyhow::Result<()> {
+        let count = self.draw_count();
+        let allowed = self.draw_sheets(count)?;
+        let judge = table_of(self.heap, count, allowed.as_slice())?;
+        let first = self.random.below(64);
+        let mark = self.random.small(count.saturating_add(1));
+        let steps = self.random.small(9);
+        let answer = settle_by_advances(judge, Number::new(first), mark, u16::from(steps));
+        let case = Case {
+            count,
+            allowed,
+            first,
+            second: 0,
+        };
+        let pinned = [Act::Pin(mark)];
+        let open = OpenSheets {
+            case: &case,
+            acts: if mark < count { &pinned } else { &[] },
+        };
+        let found = answer.map(|(sheet, cost)| (sheet, Cost::from(cost)));
+        self.tally.expect(found == open.best());
+        Ok(())
+    }
+}
+
+// A hundred orders by their own calls, in one line.
+pub fn run_directly(rt: &HostRuntime, seed: u64) -> anyhow::Result<()> {
+    let mut runs = Runs {
+        heap: rt.alloc(),
+        random: Random::new(seed),
+        tally: Tally::new(),
+    };
+    for _ in 0..100u8 {
+        runs.run_direct()?;
+    }
+    let differences = runs.tally.differences();
+    println!(rt; "100 orders by their own calls: {differences} differences")?;
+    Ok(())
 }
 
 // A hundred runs of each kind, with a line for every ten of each.

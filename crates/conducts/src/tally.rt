@@ -95,6 +95,10 @@ impl Tally {
         }
     }
 
+    pub fn differences(&self) -> u64 {
+        self.differences
+    }
+
     // A line for each kind of answer, and for each number of a refusal.
     pub fn print_answers(&self, rt: &HostRuntime) -> io::Result<()> {
         let Tally {

@@ -1,13 +1,13 @@
 -- The place of a search as a part-sheet: its marks, the sheets within it, and the sheets before it.
-use Rattle.std.proofs.Common.{◌≡◌, ℕ, ◌-◌, ◌^◌, ◌<◌, ◌≤◌, min, true, false, not, ◌||◌, ◌⊎◌, sym, ap, ◌∙◌, inl, inr, ⊎_elim, arith, pow_mono}
+use Rattle.std.proofs.Common.{◌≡◌, ℕ, ◌-◌, ◌^◌, ◌<◌, ◌≤◌, min, true, false, not, ◌||◌, ◌⊎◌, Decides, sym, ap, ◌∙◌, inl, inr, ⊎_elim, arith, pow_mono}
 use lib.Bits.{and_lt, or_lt}
 use lib.Pow.{ones_lt}
 use Rattle.std.proofs.lemmas.Bool.{both_ways, cases_lt, cases_Bool, and_parts, and_from, and_left, or_cases, or_left, or_right}
-use Rattle.sheets.specs.Sheets.{width, has, others, MarksBelow, Part, Within, Full}
+use Rattle.sheets.specs.Sheets.{width, has, others, MarksBelow, Part, Within, Full, full}
 use Rattle.sheets.specs.Bits.{has_high, has_and, has_or, has_first, below_marks, marks_below, same_marks}
-use Rattle.sheets.specs.Parts.{others_word, has_others, others_apart, deciding_apart}
+use Rattle.sheets.specs.Parts.{others_word, has_others, others_apart, deciding_apart, decides_full}
 use Rattle.orders.specs.Search.{Search}
-use Rattle.orders.specs.Places.{LiesBefore}
+use Rattle.orders.specs.Places.{DecidesFirst, LiesBefore}
 use Rattle.orders.proofs.Dismissals.{Well, Agrees, Precedes}
 use Rattle.orders.specs.Searches.{first_marks, decided_at, present_at, absent_at}
 
@@ -26,14 +26,13 @@ module _ (k : ℕ) (few : k ≤ width) where
   first_high : (i : ℕ) → k ≤ i → has (first_marks k) i ≡ false
   first_high i from = ap (λ q. has q i) first_is ∙ has_high k (2 ^ k - 1) i (ones_lt k) from
 
-module _ (n : ℕ) (x : Search) (few : n ≤ width) (well : Well n x) where
+module _ (n : ℕ) (x : Search) (few : n ≤ width) (well : Well width x) where
   decided_word : decided_at n x < 2 ^ width
   decided_word = or_lt width (first_marks x.depth) (others (first_marks n)) (first_word x.depth) (others_word (first_marks n) (first_word n))
 
   pub place_word : x.present < 2 ^ width
   place_word =
-      let within : x.depth ≤ width = omega (arith, well.few) in
-      let wide : 2 ^ x.depth ≤ 2 ^ width = pow_mono {i = x.depth} {j = width} within in
+      let wide : 2 ^ x.depth ≤ 2 ^ width = pow_mono {i = x.depth} {j = width} well.few in
       omega (arith, well.low)
 
   has_decided : (i : ℕ) → has (decided_at n x) i ≡ (has (first_marks x.depth) i || has (others (first_marks n)) i)
@@ -125,12 +124,60 @@ module _ (n : ℕ) (x : Search) (few : n ≤ width) (well : Well n x) where
       (λ f. within.none i (lacks_absent i (omega (arith, well.few)) f (inl lt)) ∙ sym f)
       (cases_Bool (has x.present i))
 
+  -- ---- which marks it decides
+
+  -- the next mark is neither present nor absent
+  open_present : (i : ℕ) → x.depth ≤ i → has (present_at n x) i ≡ false
+  open_present i from = has_present i ∙ has_high x.depth x.present i well.low from
+
+  open_absent : (i : ℕ) → x.depth ≤ i → i < n → has (absent_at n x) i ≡ false
+  open_absent i from lt = ⊎_elim
+      (λ t. absurd (⊎_elim (λ (low : i < x.depth). omega arith) (λ (high : n ≤ i). omega arith) (absent_where i t)))
+      (λ f. f)
+      (cases_Bool (has (absent_at n x) i))
+
   -- where all marks below the count are decided, the place is full
   pub place_full : n ≤ x.depth → Full (present_at n x) (absent_at n x)
   place_full all i lt = ⊎_elim
       (λ t. inl (has_present i ∙ t))
       (λ f. inr (lacks_absent i lt f (⊎_elim inl (λ from. inr (omega arith)) (cases_lt i x.depth))))
       (cases_Bool (has x.present i))
+
+  -- and only there
+  pub full_depth : Full (present_at n x) (absent_at n x) → n ≤ x.depth
+  full_depth every = ⊎_elim
+      (λ (lt : x.depth < n). absurd (⊎_elim
+      (both_ways (has (present_at n x) x.depth) (open_present x.depth (omega arith)))
+      (both_ways (has (absent_at n x) x.depth) (open_absent x.depth (omega arith) lt))
+      (every x.depth (omega arith))))
+      (λ le. le)
+      (cases_lt x.depth n)
+
+  decides : Decides (full (present_at n x) (absent_at n x)) (Full (present_at n x) (absent_at n x))
+  decides = decides_full (present_at n x) (absent_at n x) place_part.present_word place_part.absent_word
+
+  -- the same of the test
+  pub full_all : full (present_at n x) (absent_at n x) ≡ true → n ≤ x.depth
+  full_all t = full_depth (decides.0 t)
+
+  pub full_open : full (present_at n x) (absent_at n x) ≡ false → x.depth < n
+  full_open f = ⊎_elim
+      (λ lt. lt)
+      (λ le. absurd (both_ways (full (present_at n x) (absent_at n x)) f (decides.1 (place_full le))))
+      (cases_lt x.depth n)
+
+  -- of the marks below the count the first are decided, and no others
+  pub decides_first : x.depth ≤ n → DecidesFirst n x.depth (present_at n x) (absent_at n x)
+  decides_first most = record {
+    few = most;
+    decided = λ i lt. ⊎_elim
+        (λ t. inl (has_present i ∙ t))
+        (λ f. inr (lacks_absent i (omega arith) f (inl lt)))
+        (cases_Bool (has x.present i));
+    open_marks = λ i from lt. (open_present i from, open_absent i from lt);
+    beyond = λ i from lt. lacks_absent i lt (has_high x.depth x.present i well.low (omega arith)) (inr from);
+    full = ((λ every. omega (arith, full_depth every)), (λ e. place_full (omega arith)));
+  }
 
   -- ---- the sheets before
 

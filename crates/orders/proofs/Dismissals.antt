@@ -2,7 +2,7 @@
 use Rattle.std.proofs.Common.{◌≡◌, ℕ, zero, suc, ◌+◌, ◌-◌, ◌^◌, ◌<◌, ◌≤◌, true, false, not, ◌⊎◌, Option, sym, refl, ap, ◌∙◌, inl, inr, ⊎_elim, arith, ap₂, add-one}
 use lib.Bits.{bit_or}
 use Rattle.std.proofs.lemmas.Bool.{both_ways, cases_lt, cases_Bool, cond_both, cond-true, cond-false}
-use Rattle.sheets.specs.Sheets.{has}
+use Rattle.sheets.specs.Sheets.{width, has}
 use Rattle.sheets.specs.Bits.{has_plus_at, lacks_top}
 use Rattle.orders.specs.Search.{Search}
 use Rattle.orders.specs.Searches.{dismissed}
@@ -12,6 +12,10 @@ use Rattle.orders.proofs.Powers.{has_plus, has_minus, minus_below, plus_below, o
 pub record Well (n : ℕ) (x : Search) : Type 0 where
   pub few : x.depth ≤ n
   pub low : x.present < 2 ^ x.depth
+
+-- so it is where more marks can be
+pub well_wide : (n : ℕ) (x : Search) → n ≤ width → Well n x → Well width x
+well_wide n x few well = record { few = omega (arith, well.few); low = well.low }
 
 -- the sheet z agrees with a place that decides k marks, of which those of p are present
 abbrev pub Agrees : ℕ → ℕ → ℕ → Type 0

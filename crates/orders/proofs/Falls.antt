@@ -4,7 +4,7 @@ use Rattle.std.proofs.lemmas.Bool.{both_ways}
 use Rattle.sheets.specs.Judging.{Judging, JudgeLaws}
 use Rattle.sheets.specs.Scaling.{Scaling, ScaleLaws}
 use Rattle.orders.specs.Search.{Search}
-use Rattle.orders.specs.Searches.{start, stepped, Steps, none, more, priced}
+use Rattle.orders.specs.Searches.{start, present_at, stepped, Steps, none, more, priced}
 use Rattle.orders.specs.Best.{CostsAtMost}
 use Rattle.orders.proofs.Dismissals.{Past, precedes_on, past_to}
 use Rattle.orders.proofs.Walks.{step_cases, steps_join}
@@ -16,8 +16,8 @@ module _ {C : Type 0} (j : Judging) (s : Scaling C) where
   past_step x z going (inl bad) = absurd (both_ways x.finished going bad)
   past_step x z going (inr l) = step_cases j s x (λ y. Past y z)
       (λ t. past_to x.depth x.present z x.held (inl l))
-      (λ f full. past_to x.depth x.present z (Some x.present) (inl l))
-      (λ f lt. inr (precedes_on x.depth (x.depth + 1) x.present x.present z (λ i lo. refl) (omega arith) l))
+      (λ f full. past_to x.depth x.present z (Some (present_at j.count x)) (inl l))
+      (λ f open_place. inr (precedes_on x.depth (x.depth + 1) x.present x.present z (λ i lo. refl) (omega arith) l))
 
   past_steps : (x y : Search) (m z : ℕ) → Steps j s x m y → Past x z → Past y z
   past_steps x y m z none b = b

@@ -1,15 +1,15 @@
 -- What every search keeps: the sheet that is held is the best of those before the place.
 use Rattle.std.proofs.Common.{◌≡◌, ℕ, ◌+◌, ◌^◌, ◌<◌, ◌≤◌, true, false, ◌⊎◌, Some, None, Option, sym, refl, ap, ◌∙◌, subst, inl, inr, ⊎_elim, arith, pow_mono}
 use Rattle.std.proofs.lemmas.Bool.{both_ways, cases_lt, cases_Bool, or_cases, or_parts, not-true, not-false}
-use Rattle.sheets.specs.Sheets.{has, MarksBelow, Part, Within, Full, Earlier}
+use Rattle.sheets.specs.Sheets.{width, has, MarksBelow, Part, Within, Full, Earlier}
 use Rattle.sheets.specs.Judging.{Judging, JudgeLaws}
 use Rattle.sheets.specs.Scaling.{Scaling, ScaleLaws}
 use Rattle.sheets.specs.Bits.{has_high, marks_below, same_marks}
 use Rattle.orders.specs.Search.{Search}
 use Rattle.orders.specs.Searches.{start, present_at, absent_at, dismissed, floor_not_below, dead_at, floor_not_below_at, dismisses, stepped, Steps, none, more, Ended, priced}
 use Rattle.orders.specs.Best.{Best}
-use Rattle.orders.proofs.Dismissals.{Well, Agrees, Precedes, Past, UpTo, dismissed_held, dismissed_well, precedes_on, past_from, past_to}
-use Rattle.orders.proofs.Decided.{present_same, place_part, place_within, place_full}
+use Rattle.orders.proofs.Dismissals.{Well, well_wide, Agrees, Precedes, Past, UpTo, dismissed_held, dismissed_well, precedes_on, past_from, past_to}
+use Rattle.orders.proofs.Decided.{present_same, place_part, place_within, place_full, full_all, full_open}
 use Rattle.orders.proofs.Walks.{deeper, step_cases, steps_join}
 
 -- ---- the order of costs
@@ -105,11 +105,14 @@ module _ {C : Type 0} (j : Judging) (s : Scaling C) (jl : JudgeLaws j) (sl : Sca
     abbrev before : ℕ → Type 0
     before = Precedes x.depth x.present
 
+    wide : Well width x
+    wide = well_wide j.count x jl.few well
+
     within : (z : ℕ) → j.allows z → here z → Within (present_at j.count x) (absent_at j.count x) z
-    within z al a = place_within j.count x jl.few well z (jl.inside z al) a
+    within z al a = place_within j.count x jl.few wide z (jl.inside z al) a
 
     part : Part (present_at j.count x) (absent_at j.count x)
-    part = place_part j.count x jl.few well
+    part = place_part j.count x jl.few wide
 
     -- no sheet within a dead place is allowed
     pub dead_barren : dead_at j s x ≡ true → (z : ℕ) → j.allows z → here z → ⊥
@@ -140,10 +143,10 @@ module _ {C : Type 0} (j : Judging) (s : Scaling C) (jl : JudgeLaws j) (sl : Sca
           same_marks x.depth z x.present (subst (λ n. z < 2 ^ n) e (marks_below j.count z below)) well.low a
 
       every : Full (present_at j.count x) (absent_at j.count x)
-      every = place_full j.count x jl.few well full
+      every = place_full j.count x jl.few wide full
 
       its_floor : s.floor (present_at j.count x) (absent_at j.count x) ≡ s.cost x.present
-      its_floor = sl.exact (present_at j.count x) (absent_at j.count x) part every ∙ ap s.cost (present_same j.count x jl.few well)
+      its_floor = sl.exact (present_at j.count x) (absent_at j.count x) part every ∙ ap s.cost (present_same j.count x jl.few wide)
 
       -- each allowed sheet before it costs more
       less : (h : Option ℕ) → floor_not_below s h (s.floor (present_at j.count x) (absent_at j.count x)) ≡ false → BestIn j s before h
@@ -158,7 +161,7 @@ module _ {C : Type 0} (j : Judging) (s : Scaling C) (jl : JudgeLaws j) (sl : Sca
       case_held kept b =
           let parts = or_parts (dead_at j s x) (floor_not_below_at j s x) kept in
           let costs = less x.held parts.1 b in (
-            subst j.allows (present_same j.count x jl.few well) (jl.full_allowed (present_at j.count x) (absent_at j.count x) part every parts.0),
+            subst j.allows (present_same j.count x jl.few wide) (jl.full_allowed (present_at j.count x) (absent_at j.count x) part every parts.0),
             inr (λ i lt. refl),
             (λ z al q. ⊎_elim
                 (λ l. sl.order.asymmetric (s.cost x.present) (s.cost z) (costs z al l))
@@ -193,13 +196,15 @@ module _ {C : Type 0} (j : Judging) (s : Scaling C) (jl : JudgeLaws j) (sl : Sca
   pub sound_step : (x : Search) → x.finished ≡ false → Sound j s x → Sound j s (stepped j s x)
   sound_step x going sound =
       let well = sound.well in
+      let wide = well_wide j.count x jl.few well in
       let b : BestIn j s (Precedes x.depth x.present) x.held =
       best_like j s (Past x) (Precedes x.depth x.present) (λ z q. ⊎_elim (λ bad. absurd (both_ways x.finished going bad)) (λ l. l) q) (λ z l. inr l) x.held sound.best in
       step_cases j s x (Sound j s)
       (λ t. dismiss_sound x.depth x.present x.held well.few well.low
       (⊎_elim (λ d. case_dead x well d b) (λ d. case_floor x well x.held d b) (or_cases (dead_at j s x) (floor_not_below_at j s x) t)))
-      (λ f full. dismiss_sound x.depth x.present (Some x.present) well.few well.low (case_held x well full f b))
-      (λ f lt. record { well = deeper_well x lt well; best = case_deeper x well b })
+      (λ f full. subst (λ z. Sound j s (dismissed x.depth x.present (Some z))) (sym (present_same j.count x jl.few wide))
+      (dismiss_sound x.depth x.present (Some x.present) well.few well.low (case_held x well (full_all j.count x jl.few wide full) f b)))
+      (λ f open_place. record { well = deeper_well x (full_open j.count x jl.few wide open_place) well; best = case_deeper x well b })
 
   -- ---- every search that began at the start
 

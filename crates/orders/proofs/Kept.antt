@@ -1,5 +1,5 @@
 -- What every log keeps, from the run that made it.
-use Rattle.std.proofs.Common.{◌≡◌, ℕ, ◌+◌, ◌≤◌, min, true, ◌⊎◌, List, [], ◌∷◌, ◌++◌, length, take, Some, None, Option, sym, refl, ap, ◌∙◌, subst, ap₂, subst₂, inl, inr, ⊎_elim, arith}
+use Rattle.std.proofs.Common.{◌≡◌, ℕ, ◌+◌, ◌≤◌, min, true, ◌⊎◌, List, [], ◌∷◌, ◌++◌, length, take, Option, sym, refl, ap, ◌∙◌, subst, ap₂, subst₂, inl, inr, ⊎_elim, arith}
 use Rattle.std.specs.List.{list_all}
 use Rattle.sheets.specs.Judging.{Judging, JudgeLaws}
 use Rattle.sheets.specs.Scaling.{Scaling, ScaleLaws}
@@ -12,19 +12,18 @@ use Rattle.orders.specs.declared.calls.Answer.TheVariants.{Shown, Final}
 use Rattle.orders.specs.declared.calls.Event.{Event}
 use Rattle.orders.specs.Search.{Search}
 use Rattle.orders.specs.Acts.{in_range, under}
-use Rattle.orders.specs.Searches.{start, present_at, absent_at, Steps, none, priced}
-use Rattle.orders.specs.Places.{LiesBefore, Before}
+use Rattle.orders.specs.Searches.{start, Steps, none, priced}
+use Rattle.orders.specs.Places.{LiesBefore}
 use Rattle.orders.specs.Best.{Best, CostsAtMost}
-use Rattle.orders.specs.Calls.{Advanced}
+use Rattle.orders.specs.Calls.{Advanced, AllowedShown, NotCheaper}
 use Rattle.orders.specs.Stages.{marking, calls_had}
-use Rattle.orders.specs.Logs.{docket, calls_of, ByDocket, EventIn, steps_so_far, OnlyAdvances, AllowedShown, NotCheaper, Shows, Settles, acts_at, Kept}
+use Rattle.orders.specs.Logs.{docket, calls_of, ByDocket, EventIn, steps_so_far, OnlyAdvances, Shows, Settles, acts_at, Kept}
 use Rattle.orders.specs.Turns.{State, Turn}
-use Rattle.orders.proofs.Dismissals.{Past}
-use Rattle.orders.proofs.Decided.{lies_precedes}
 use Rattle.orders.proofs.Walks.{steps_join}
 use Rattle.orders.proofs.Remaining.{steps_bound}
-use Rattle.orders.proofs.Found.{BestIn, Sound, sound_reached, best_finished}
+use Rattle.orders.proofs.Found.{Sound, sound_reached, best_finished}
 use Rattle.orders.proofs.Falls.{falls}
+use Rattle.orders.proofs.Shown.{held_allowed, held_none_cheaper}
 use Rattle.orders.specs.Under.{under_laws, more_acts_best}
 use Rattle.orders.proofs.Runs.{Runs, begun, runs_split, acts_run, calls_had_run, Gone, gone_begun, gone_run}
 
@@ -33,27 +32,6 @@ same_shown p q e = cc
 
 same_final : {C : Type 0} (x y : Option (ℕ × C)) → Final x ≡ Final y → x ≡ y
 same_final x y e = cc
-
--- ---- what a sound search shows
-
-module _ {C : Type 0} (j : Judging) (s : Scaling C) (jl : JudgeLaws j) (x : Search) (sound : Sound j s x) where
-  held_allowed : AllowedShown j s (priced s x.held)
-  held_allowed = go x.held sound.best
-    where
-      go : (h : Option ℕ) → BestIn j s (Past x) h → AllowedShown j s (priced s h)
-      go None b = tt
-      go (Some h) b = (b.0, refl)
-
-  before_past : (z : ℕ) → Before x.finished (present_at j.count x) (absent_at j.count x) z → Past x z
-  before_past z (inl ended) = inl ended
-  before_past z (inr lies) = inr (lies_precedes j.count x jl.few sound.well z lies)
-
-  held_none_cheaper : (z : ℕ) → j.allows z → Before x.finished (present_at j.count x) (absent_at j.count x) z → NotCheaper s (priced s x.held) z
-  held_none_cheaper z al before = go x.held sound.best
-    where
-      go : (h : Option ℕ) → BestIn j s (Past x) h → NotCheaper s (priced s h) z
-      go None b = b z al (before_past z before)
-      go (Some h) b = b.2 z al (before_past z before)
 
 module _ {C : Type 0} (j : Judging) (s : Scaling C) (jl : JudgeLaws j) (sl : ScaleLaws s) where
   -- ---- a settling and an advance, k steps after their search began
@@ -91,7 +69,7 @@ module _ {C : Type 0} (j : Judging) (s : Scaling C) (jl : JudgeLaws j) (sl : Sca
           remaining = e.remaining;
           steps = on;
           finished = e.finished;
-          few = steps_bound (under j t.acts) s last (k + e.remaining) on;
+          few = steps_bound (under j t.acts) s jl.few last (k + e.remaining) on;
           held = refl;
           best = best_finished (under j t.acts) s (under_laws j t.acts g.low jl) sl last e.finished (sound_from t.acts g.low last (k + e.remaining) on);
         },

@@ -6,6 +6,7 @@ pub mod Walks
 pub mod Remaining
 pub mod Found
 pub mod Falls
+pub mod Shown
 pub mod Visits
 pub mod Runs
 pub mod Kept

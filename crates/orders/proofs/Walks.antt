@@ -1,10 +1,10 @@
 -- One step by its three cases, and steps one after another.
-use Rattle.std.proofs.Common.{◌≡◌, ℕ, suc, ◌+◌, ◌<◌, ◌≤◌, true, false, cond, leb, Some, sym, refl, ap, ◌∙◌, subst, suc-add, zero-add}
-use Rattle.std.proofs.lemmas.Bool.{both_ways, cond_both, cond-true, cond-false, le-leb, lt-leb, leb-true, leb-false}
+use Rattle.std.proofs.Common.{◌≡◌, ℕ, suc, ◌+◌, true, false, cond, Some, sym, refl, ap, ◌∙◌, subst, suc-add, zero-add}
+use Rattle.std.proofs.lemmas.Bool.{both_ways, cond_both, cond-true, cond-false}
 use Rattle.sheets.specs.Judging.{Judging}
 use Rattle.sheets.specs.Scaling.{Scaling}
 use Rattle.orders.specs.Search.{Search}
-use Rattle.orders.specs.Searches.{dismissed, dismisses, stepped, Steps, none, more}
+use Rattle.orders.specs.Searches.{present_at, dismissed, dismisses, full_at, stepped, Steps, none, more}
 
 -- the next mark decided absent
 abbrev pub deeper : Search → Search
@@ -14,25 +14,23 @@ module _ {C : Type 0} (j : Judging) (s : Scaling C) where
   pub stepped_dismissed : (x : Search) → dismisses j s x ≡ true → stepped j s x ≡ dismissed x.depth x.present x.held
   stepped_dismissed x t = cond-true _ _ _ t
 
-  pub stepped_held : (x : Search) → dismisses j s x ≡ false → j.count ≤ x.depth → stepped j s x ≡ dismissed x.depth x.present (Some x.present)
-  stepped_held x f le = cond-false _ _ _ f ∙ cond-true _ _ _ (le-leb j.count x.depth le)
+  pub stepped_held : (x : Search) → dismisses j s x ≡ false → full_at j s x ≡ true → stepped j s x ≡ dismissed x.depth x.present (Some (present_at j.count x))
+  stepped_held x f full = cond-false _ _ _ f ∙ cond-true _ _ _ full
 
-  pub stepped_deeper : (x : Search) → dismisses j s x ≡ false → x.depth < j.count → stepped j s x ≡ deeper x
-  stepped_deeper x f lt = cond-false _ _ _ f ∙ cond-false _ _ _ (lt-leb j.count x.depth lt)
+  pub stepped_deeper : (x : Search) → dismisses j s x ≡ false → full_at j s x ≡ false → stepped j s x ≡ deeper x
+  stepped_deeper x f open_place = cond-false _ _ _ f ∙ cond-false _ _ _ open_place
 
   -- what holds of each of the three
   pub step_cases : (x : Search) (P : Search → Type 0)
       → (dismisses j s x ≡ true → P (dismissed x.depth x.present x.held))
-      → (dismisses j s x ≡ false → j.count ≤ x.depth → P (dismissed x.depth x.present (Some x.present)))
-      → (dismisses j s x ≡ false → x.depth < j.count → P (deeper x))
+      → (dismisses j s x ≡ false → full_at j s x ≡ true → P (dismissed x.depth x.present (Some (present_at j.count x))))
+      → (dismisses j s x ≡ false → full_at j s x ≡ false → P (deeper x))
       → P (stepped j s x)
   step_cases x P dismiss hold decide =
       cond_both (dismisses j s x) (dismissed x.depth x.present x.held)
-      (cond (leb j.count x.depth) (dismissed x.depth x.present (Some x.present)) (deeper x)) P
+      (cond (full_at j s x) (dismissed x.depth x.present (Some (present_at j.count x))) (deeper x)) P
       dismiss
-      (λ f. cond_both (leb j.count x.depth) (dismissed x.depth x.present (Some x.present)) (deeper x) P
-      (λ t. hold f (leb-true j.count x.depth t))
-      (λ g. decide f (leb-false j.count x.depth g)))
+      (λ f. cond_both (full_at j s x) (dismissed x.depth x.present (Some (present_at j.count x))) (deeper x) P (hold f) (decide f))
 
   -- ---- steps one after another
 

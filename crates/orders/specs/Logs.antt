@@ -1,5 +1,5 @@
 -- What every log of the calls on an order keeps.
-use Rattle.std.specs.Prelude.{◌≡◌, ℕ, suc, ◌+◌, ◌-◌, ◌^◌, ◌<◌, ◌≤◌, min, true, false, List, [], ◌∷◌, ◌++◌, map, take, Some, None, Ok, Err, Option, Result}
+use Rattle.std.specs.Prelude.{◌≡◌, ℕ, suc, ◌+◌, ◌-◌, ◌^◌, ◌<◌, ◌≤◌, min, true, List, [], ◌∷◌, ◌++◌, map, take, Ok, Err, Option, Result}
 use Rattle.sheets.specs.Judging.{Judging}
 use Rattle.sheets.specs.Scaling.{Scaling}
 use Rattle.orders.specs.declared.acts.Act.{Act}
@@ -17,7 +17,7 @@ use Rattle.orders.specs.Dockets.{refused_act, undo_refused, after_act, after_und
 use Rattle.orders.specs.Searches.{start, Steps, priced}
 use Rattle.orders.specs.Places.{Before}
 use Rattle.orders.specs.Best.{Best, CostsAtMost}
-use Rattle.orders.specs.Calls.{Showing}
+use Rattle.orders.specs.Calls.{Showing, AllowedShown, NotCheaper}
 use Rattle.orders.specs.Stages.{marking, calls_had}
 
 -- ---- the docket, from the count n and the calls alone
@@ -109,17 +109,6 @@ OnlyAdvances [] = Unit {0}
 OnlyAdvances (e ∷ log) = ((n : ℕ) × (e.call ≡ Advance n)) × OnlyAdvances log
 
 -- ---- advances and settlings
-
--- the sheet that is shown is allowed, and has the cost that is shown
-abbrev pub AllowedShown : {C : Type 0} → Judging → Scaling C → Option (ℕ × C) → Type 0
-AllowedShown j s None = Unit {0}
-AllowedShown j s (Some shown) = j.allows shown.0 × (shown.1 ≡ s.cost shown.0)
-
--- z costs no less than what is shown; where nothing is shown this is false, so `none_cheaper` then says that no such sheet
--- exists
-abbrev pub NotCheaper : {C : Type 0} → Scaling C → Option (ℕ × C) → ℕ → Type 0
-NotCheaper s None z = ⊥
-NotCheaper s (Some shown) z = s.below (s.cost z) shown.1 ≡ false
 
 module _ {C : Type 0} (j : Judging) (s : Scaling C) where
   -- what an advance by n returns, `before` steps after its search began

@@ -1,6 +1,15 @@
--- Which sheets lie before a place, by its present and its absent marks.
-use Rattle.std.specs.Prelude.{◌≡◌, ℕ, ◌<◌, Bool, true, false, ◌⊎◌}
-use Rattle.sheets.specs.Sheets.{has}
+-- A place by its present and its absent marks: which marks it decides, and which sheets lie before it.
+use Rattle.std.specs.Prelude.{◌≡◌, ℕ, ◌<◌, ◌≤◌, Bool, true, false, ◌⊎◌, ◌↔◌}
+use Rattle.sheets.specs.Sheets.{width, has, Full}
+
+-- of the marks below the count the place decides exactly the first k; all marks from the count upward are absent
+pub record DecidesFirst (count k present absent : ℕ) : Type 0 where
+  pub few : k ≤ count
+  pub decided : (i : ℕ) → i < k → (has present i ≡ true) ⊎ (has absent i ≡ true)
+  pub open_marks : (i : ℕ) → k ≤ i → i < count → (has present i ≡ false) × (has absent i ≡ false)
+  pub beyond : (i : ℕ) → count ≤ i → i < width → has absent i ≡ true
+  -- so it is full exactly when k is the count
+  pub full : Full present absent ↔ (k ≡ count)
 
 -- the sheet z lacks the lowest decided mark on which it and the place differ
 pub record LiesBefore (present absent z : ℕ) : Type 0 where

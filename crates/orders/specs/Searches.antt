@@ -1,7 +1,6 @@
 -- One search: its place, one step, and a number of steps.
-use Rattle.std.specs.Prelude.{◌≡◌, ℕ, zero, suc, ◌+◌, ◌-◌, ◌^◌, ◌<◌, ◌≤◌, min, Bool, true, false, if◌then◌else◌, not, ◌||◌, Some, None, Option, bit_and, bit_or, nat_le}
-use Rattle.std.specs.Option.{unwrap_or}
-use Rattle.sheets.specs.Sheets.{width, has, others}
+use Rattle.std.specs.Prelude.{◌≡◌, ℕ, zero, suc, ◌+◌, ◌-◌, ◌^◌, ◌<◌, ◌≤◌, min, Bool, true, false, if◌then◌else◌, not, ◌||◌, Some, None, Option, bit_and, bit_or}
+use Rattle.sheets.specs.Sheets.{width, has, others, full}
 use Rattle.sheets.specs.Judging.{Judging}
 use Rattle.sheets.specs.Scaling.{Scaling}
 use Rattle.orders.specs.Search.{Search}
@@ -55,12 +54,16 @@ module _ {C : Type 0} (j : Judging) (s : Scaling C) where
   abbrev pub dismisses : Search → Bool
   dismisses x = dead_at x || floor_not_below_at x
 
+  -- the place is full
+  abbrev pub full_at : Search → Bool
+  full_at x = full (present_at j.count x) (absent_at j.count x)
+
   -- one step: the place is dismissed; or it is full, its sheet is held, and it is dismissed; or the next mark is decided
-  -- absent (in a search that began at the start, `present` has no mark from the count upward, so it is that sheet)
+  -- absent
   abbrev pub stepped : Search → Search
   stepped x =
       if dismisses x then dismissed x.depth x.present x.held
-      else if nat_le j.count x.depth then dismissed x.depth x.present (Some x.present)
+      else if full_at x then dismissed x.depth x.present (Some (present_at j.count x))
       else record { depth = x.depth + 1; present = x.present; held = x.held; finished = false }
 
   -- n steps, each from a place that is not finished
@@ -79,10 +82,6 @@ module _ {C : Type 0} (j : Judging) (s : Scaling C) where
     pub remaining : ℕ
     pub steps : Steps before remaining after
     pub finished : after.finished ≡ true
-
--- the cost of the sheet that is held; where none is, of the empty sheet
-abbrev pub held_cost : {C : Type 0} → Scaling C → Option ℕ → C
-held_cost s held = s.cost (unwrap_or held 0)
 
 -- the sheet that is held with its cost, if there is one
 abbrev pub priced : {C : Type 0} → Scaling C → Option ℕ → Option (ℕ × C)

@@ -47,32 +47,34 @@ module _ {C : Type 0} (j : Judging) (s : Scaling C) where
 
 -- ---- the orders of the code
 
+-- C, j and s are what the type of an order takes of its judge and its scale
+
 -- the stage of the order, its acts and its search
-abbrev pub state_of : {J S : Type 0} → Order J S → State
+abbrev pub state_of : {J S C : Type 0} {j : _} {s : _} → Order J S C j s → State
 state_of (Marking m) = record { stage = marking; acts = acts_of m.acts; search = start }
 state_of (Seeking m) = record { stage = seeking; acts = acts_of m.marking.acts; search = m.search }
 state_of (Settled m) = record { stage = settled; acts = acts_of m.marking.acts; search = start }
 
 -- its judge, below the acts
-abbrev pub judge_of : {J S : Type 0} → Order J S → J
+abbrev pub judge_of : {J S C : Type 0} {j : _} {s : _} → Order J S C j s → J
 judge_of (Marking m) = m.acts.judge
 judge_of (Seeking m) = m.marking.acts.judge
 judge_of (Settled m) = m.marking.acts.judge
 
 -- its scale
-abbrev pub scale_of : {J S : Type 0} → Order J S → S
+abbrev pub scale_of : {J S C : Type 0} {j : _} {s : _} → Order J S C j s → S
 scale_of (Marking m) = m.scale
 scale_of (Seeking m) = m.marking.scale
 scale_of (Settled m) = m.marking.scale
 
-module _ {J S C : Type 0} (judging : J → Judging) (scaling : S → Scaling C) where
+module _ {J S C : Type 0} {j : _} {s : _} (judging : J → Judging) (scaling : S → Scaling C) where
   -- the call leads from one order to the next, over the same judge and scale
-  pub record Turned (order : Order J S) (c : Call) (next : Order J S) (r : Answer C) : Type 0 where
+  pub record Turned (order : Order J S C j s) (c : Call) (next : Order J S C j s) (r : Answer C) : Type 0 where
     pub turn : Turn (judging (judge_of order)) (scaling (scale_of order)) (state_of order) c r (state_of next)
     pub judge : judge_of next ≡ judge_of order
     pub scale : scale_of next ≡ scale_of order
 
   -- so it does, or the stage of the order does not have the call
-  abbrev pub Answered : Order J S → Call → Option (Order J S × Answer C) → Type 0
+  abbrev pub Answered : Order J S C j s → Call → Option (Order J S C j s × Answer C) → Type 0
   Answered order c None = same_stage (state_of order).stage (stage_of c) ≡ false
   Answered order c (Some next) = Turned order c next.0 next.1

@@ -18,9 +18,9 @@ pub struct Search {
     pub(crate) finished: bool,
 }
 
-// Contracts see the fields. No more marks are decided than a sheet has.
+// Contracts see the fields. No more marks are decided than a sheet has, and only decided ones are present.
 impl Model for Search {
-    ghost use Rattle.std.specs.Prelude.{◌≤◌};
+    ghost use Rattle.std.specs.Prelude.{◌^◌, ◌<◌, ◌≤◌};
     ghost use Rattle.sheets.specs.Sheets.{width};
     ghost use Rattle.orders.specs.Search.{Search as SearchModel};
 
@@ -30,7 +30,7 @@ impl Model for Search {
 
     ghost inverse = { λ s. record { depth = s.depth; present = s.present; held = s.held; finished = s.finished } };
 
-    ghost invariant = { λ s. s.depth ≤ width };
+    ghost invariant = { λ s. (s.depth ≤ width) × (s.present < 2 ^ s.depth) };
 }
 
 impl Search {

@@ -1,6 +1,6 @@
 // The steps of a search.
-ghost use Rattle.std.specs.Prelude.{◌≡◌};
-ghost use Rattle.orders.specs.Searches.{dismisses, stepped, Walked, Ended, held_cost, priced};
+ghost use Rattle.std.specs.Prelude.{◌≡◌, ◌||◌};
+ghost use Rattle.orders.specs.Searches.{floor_not_below, stepped, Walked, Ended, priced};
 
 use crate::search::Search;
 use sheets::{Judge, PartSheet, Scale, Sheet};
@@ -12,22 +12,25 @@ fn sheet_cost<S: Scale>(scale: &S, sheet: Sheet) -> S::Cost
     scale.floor(PartSheet::of_sheet(sheet))
 }
 
-// The sheet that is held with its cost, if there is one.
+// The sheet that is held with its cost, if there is one. The option is taken apart by a pattern, by a rule of the project.
 pub(crate) fn with_cost<S: Scale>(scale: &S, held: Option<Sheet>) -> Option<(Sheet, S::Cost)>
     ensures { result ≡ priced (S.scaling scale.now) held }
 {
-    held.map(|sheet| (sheet, sheet_cost(scale, sheet)))
+    match held {
+        Some(sheet) => Some((sheet, sheet_cost(scale, sheet))),
+        None => None,
+    }
 }
 
-// A walk is a search that takes steps: it has the search, its judge and its scale, and the cost of the sheet that is held,
-// so that it is not computed again at each step; where none is held, that of the empty sheet.
+// A walk is a search that takes steps: it has the search, its judge and its scale, and the sheet that is held with its
+// cost, so that it is not computed again at each step.
 #[derive(Drop)]
 pub(crate) struct Walk<'a, J, S: Scale> {
     judge: &'a J,
     scale: &'a S,
     pub(crate) search: Search,
-    cost: S::Cost,
-    ghost its_cost: { cost ≡ held_cost (S.scaling scale.now) search.held },
+    pub(crate) held: Option<(Sheet, S::Cost)>,
+    ghost its_cost: { held ≡ priced (S.scaling scale.now) search.held },
 }
 
 impl<'a, J: Judge, S: Scale> Walk<'a, J, S> {
@@ -41,18 +44,19 @@ impl<'a, J: Judge, S: Scale> Walk<'a, J, S> {
             judge,
             scale,
             search,
-            cost: sheet_cost(scale, search.held.unwrap_or(0)),
+            held: with_cost(scale, search.held),
         }
     }
 
     // The judge calls the place dead, or a sheet is held and the floor of the place is not below its cost.
-    fn is_dismissed(&self) -> bool
-        ensures { result ≡ dismisses (J.judging self.now.judge.now) (S.scaling self.now.scale.now) self.now.search }
+    fn is_dismissed(&self, place: PartSheet) -> bool
+        ensures { result ≡ ((J.judging self.now.judge.now).dead place.present place.absent || floor_not_below (S.scaling self.now.scale.now) self.now.search.held ((S.scaling self.now.scale.now).floor place.present place.absent)) }
     {
-        let search = self.search;
-        let place = search.place(self.judge.count());
         self.judge.dead(place)
-            || search.held.is_some() && !self.scale.below(self.scale.floor(place), self.cost)
+            || match self.held {
+                Some((_, cost)) => !self.scale.below(self.scale.floor(place), cost),
+                None => false,
+            }
     }
 
     // One step.
@@ -62,12 +66,14 @@ impl<'a, J: Judge, S: Scale> Walk<'a, J, S> {
         ensures search { self.new.search ≡ stepped (J.judging self.old.judge.now) (S.scaling self.old.scale.now) self.old.search }
     {
         let search = self.search;
-        if self.is_dismissed() {
-            self.search = search.dismiss(search.held);
-        } else if search.depth >= self.judge.count() {
-            let sheet = search.present;
+        let held = search.held;
+        let place = search.place(self.judge.count());
+        if self.is_dismissed(place) {
+            self.search = search.dismiss(held);
+        } else if place.is_full() {
+            let sheet = place.present();
             self.search = search.dismiss(Some(sheet));
-            self.cost = sheet_cost(self.scale, sheet);
+            self.held = Some((sheet, sheet_cost(self.scale, sheet)));
         } else {
             self.search = search.deepen();
         }
@@ -75,7 +81,8 @@ impl<'a, J: Judge, S: Scale> Walk<'a, J, S> {
 
     // So many steps, or those that remain if fewer; returns how many they were.
     pub(crate) fn take(&mut self, most: u16) -> u16
-        ensures { Walked (J.judging self.old.judge.now) (S.scaling self.old.scale.now) most self.old.search result self.new.search }
+        ensures steps { Walked (J.judging self.old.judge.now) (S.scaling self.old.scale.now) most self.old.search result self.new.search }
+        ensures scale { self.new.scale ≡ self.old.scale }
     {
         for taken in 0..most {
             if self.search.finished {
@@ -88,7 +95,8 @@ impl<'a, J: Judge, S: Scale> Walk<'a, J, S> {
 
     // The steps that remain. A `while`: they can be more than a number of 64 bits counts.
     pub(crate) fn finish(&mut self)
-        ensures { Ended (J.judging self.old.judge.now) (S.scaling self.old.scale.now) self.old.search self.new.search }
+        ensures steps { Ended (J.judging self.old.judge.now) (S.scaling self.old.scale.now) self.old.search self.new.search }
+        ensures scale { self.new.scale ≡ self.old.scale }
     {
         while !self.search.finished {
             self.step();

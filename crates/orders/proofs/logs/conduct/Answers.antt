@@ -11,8 +11,8 @@ use Rattle.orders.proofs.Conducted.{along_none, along_more, along_all, along_roo
 use Rattle.orders.proofs.logs.conduct.Goals as goal
 
 -- a call on an order over the judge and the scale leads to one over the same
-module _ {J S C : Type 0} (judging : J → Judging) (scaling : S → Scaling C) where
-  turned_over : (order next : Order J S) (c : Call) (r : Answer C) (judge : J) (scale : S) → Turned judging scaling order c next r → judge_of order ≡ judge → scale_of order ≡ scale
+module _ {J S C : Type 0} {j : _} {s : _} (judging : J → Judging) (scaling : S → Scaling C) where
+  turned_over : (order next : Order J S C j s) (c : Call) (r : Answer C) (judge : J) (scale : S) → Turned judging scaling order c next r → judge_of order ≡ judge → scale_of order ≡ scale
       → Turn (judging judge) (scaling scale) (state_of order) c r (state_of next) × (judge_of next ≡ judge) × (scale_of next ≡ scale)
   turned_over order next c r judge scale turned j s =
       (subst₂ (λ a b. Turn (judging a) (scaling b) (state_of order) c r (state_of next)) j s turned.turn, turned.judge ∙ j, turned.scale ∙ s)

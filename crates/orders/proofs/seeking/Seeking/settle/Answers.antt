@@ -1,27 +1,35 @@
-use Rattle.std.proofs.Common.{◌≡◌, sym, ap, subst}
-use Rattle.orders.specs.Search.{Search}
-use Rattle.orders.specs.Searches.{Ended, priced}
-use Rattle.orders.specs.Best.{Best}
-use Rattle.orders.specs.Models.{acts_of, held_to}
-use Rattle.orders.specs.Under.{under_laws}
-use Rattle.orders.proofs.Found.{ended_best}
+use Rattle.std.proofs.Common.{ap}
+use base.Stored.{Coded-set}
+use Rattle.orders.proofs.Shown.{reached_best, reached_falls, held_laws}
 use Rattle.orders.proofs.seeking.Seeking.settle.Goals as goal
 
 pub returns-clause-search : goal.returns-clause-search
 returns-clause-search g c =
-    let me = c.args.self in
-    let acts = me.marking.acts in
-    let scale = me.marking.scale in
-    let j = held_to g.J.Judge.judging acts in
-    let s = g.S.Scale.scaling scale in
-    let last = c.finish.new.self.search in
     let told = c.begin-walk.ensures in
-    let ended : Ended j s me.search last = rw (told.judge, told.scale, told.search) at c.finish.ensures in
-    let its_held : c.last.inside.held ≡ last.held = ap (λ (x : Search). x.held) c.last.view_is in
-    let laws = under_laws (g.J.Judge.judging acts.judge) (acts_of acts) acts.docket.ranges (g.met.J.Judge.keeps_laws acts.judge) in
     record {
-      last = last;
-      ended = ended;
-      its_held = its_held;
-      best = λ reached. subst (λ h. Best j s (priced s h)) (sym its_held) (ended_best j s laws (g.met.S.Scale.keeps_laws scale) me.search last reached.0 reached.1 ended);
+      last = c.finish.new.self.search;
+      ended = rw (told.judge, told.scale, told.search) at c.finish.ensures.steps;
+      its_held = ap (λ w. w.search.held) c.walk.view_is;
+    }
+
+pub returns-clause-best : goal.returns-clause-best
+returns-clause-best g c =
+    let me = c.args.self in
+    let ends = returns-clause-search g c in
+    rw ends.its_held (reached_best _ _ (held_laws _ g.met.J.Judge.keeps_laws me.marking.acts) (g.met.S.Scale.keeps_laws me.marking.scale) (Coded-set g.row.S-Cost.coded) me.search ends.last me.reached ends.ended)
+
+pub returns-clause-falls : goal.returns-clause-falls
+returns-clause-falls g c =
+    let me = c.args.self in
+    let ends = returns-clause-search g c in
+    rw ends.its_held (reached_falls _ _ (held_laws _ g.met.J.Judge.keeps_laws me.marking.acts) (g.met.S.Scale.keeps_laws me.marking.scale) me.search ends.last _ me.reached ends.ended.steps)
+
+pub invariant_of-result : goal.invariant_of-result
+invariant_of-result g c =
+    let me = c.args.self in
+    let told = c.begin-walk.ensures in
+    let its_held = ap (λ w. w.search.held) c.walk.view_is in
+    record {
+      best = ∣ rw its_held (reached_best _ _ (held_laws _ g.met.J.Judge.keeps_laws me.marking.acts) (g.met.S.Scale.keeps_laws me.marking.scale) (Coded-set g.row.S-Cost.coded) me.search c.finish.new.self.search me.reached
+          (rw (told.judge, told.scale, told.search) at c.finish.ensures.steps)) ∣₁;
     }
