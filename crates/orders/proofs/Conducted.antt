@@ -9,7 +9,7 @@ use Rattle.orders.specs.declared.calls.Call.{Call}
 use Rattle.orders.specs.declared.calls.Answer.{Answer}
 use Rattle.orders.specs.declared.calls.Event.{Event}
 use Rattle.orders.specs.Searches.{start}
-use Rattle.orders.specs.Stages.{marking, stage_of, leads_to, same_stage, calls_had}
+use Rattle.orders.specs.Stages.{marking, same_stage, row, calls_had}
 use Rattle.orders.specs.Logs.{calls_of, Conducted}
 use Rattle.orders.specs.Turns.{State, Turn}
 use Rattle.orders.proofs.Runs.{Runs, begun, runs_one}
@@ -66,8 +66,8 @@ module _ {C : Type 0} (j : Judging) (s : Scaling C) (calls : List Call) (before 
     along_room full = along_ends (drop i calls) left_over (inr (omega (arith, many)))
 
     -- the stage does not have the next call
-    pub along_stops : (d : Call) → i < length calls → same_stage u.stage (stage_of (get_or calls i d)) ≡ false → Conducted j s room calls before after
+    pub along_stops : (d : Call) → i < length calls → same_stage u.stage (row (get_or calls i d)).from ≡ false → Conducted j s room calls before after
     along_stops d lt missing =
         let next = get_or calls i d in
         along_ends (drop i calls) left_over
-        (inl (ap (calls_had u.stage) (drop_more calls i d lt) ∙ cond-false (same_stage u.stage (stage_of next)) (suc (calls_had (leads_to next) (drop (i + 1) calls))) 0 missing))
+        (inl (ap (calls_had u.stage) (drop_more calls i d lt) ∙ cond-false (same_stage u.stage (row next).from) (suc (calls_had (row next).to (drop (i + 1) calls))) 0 missing))

@@ -3,10 +3,9 @@ use Rattle.std.specs.Prelude.{◌≡◌, ℕ, suc, ◌+◌, ◌-◌, ◌^◌, �
 use Rattle.sheets.specs.Judging.{Judging}
 use Rattle.sheets.specs.Scaling.{Scaling}
 use Rattle.orders.specs.declared.acts.Act.{Act}
-use Rattle.orders.specs.declared.acts.Act.TheVariants as act
 use Rattle.orders.specs.declared.acts.Refusal.{Refusal}
 use Rattle.orders.specs.declared.calls.Call.{Call}
-use Rattle.orders.specs.declared.calls.Call.TheVariants.{Pin, Bar, Strike, Undo, Seek, Advance, Settle, Withdraw, Reopen}
+use Rattle.orders.specs.declared.calls.Call.TheVariants.{Advance, Settle}
 use Rattle.orders.specs.declared.calls.Progress.{Progress}
 use Rattle.orders.specs.declared.calls.Answer.{Answer}
 use Rattle.orders.specs.declared.calls.Answer.TheVariants.{Stands, Refused, Moved, Shown, Final}
@@ -18,21 +17,22 @@ use Rattle.orders.specs.Searches.{start, Steps, priced}
 use Rattle.orders.specs.Places.{Before}
 use Rattle.orders.specs.Best.{Best, CostsAtMost}
 use Rattle.orders.specs.Calls.{Showing, AllowedShown, NotCheaper}
-use Rattle.orders.specs.Stages.{marking, calls_had}
+use Rattle.orders.specs.Stages.{marking, Effect, adds, takes_off, begins, takes_steps, ends, moves, row, calls_had}
 
 -- ---- the docket, from the count n and the calls alone
 
+-- the acts after a call that does this
+abbrev pub after_effect : ℕ → List Act → Effect → List Act
+after_effect n acts (adds a) = after_act n acts a
+after_effect n acts takes_off = after_undo acts
+after_effect n acts begins = acts
+after_effect n acts (takes_steps k) = acts
+after_effect n acts ends = acts
+after_effect n acts moves = acts
+
 -- the acts after one call more
 abbrev pub after_call : ℕ → List Act → Call → List Act
-after_call n acts (Pin mark) = after_act n acts (act.Pin mark)
-after_call n acts (Bar mark) = after_act n acts (act.Bar mark)
-after_call n acts (Strike sheet) = after_act n acts (act.Strike sheet)
-after_call n acts Undo = after_undo acts
-after_call n acts Seek = acts
-after_call n acts (Advance k) = acts
-after_call n acts Settle = acts
-after_call n acts Withdraw = acts
-after_call n acts Reopen = acts
+after_call n acts c = after_effect n acts (row c).effect
 
 -- the acts after these calls
 abbrev pub after_calls : ℕ → List Act → List Call → List Act
@@ -50,17 +50,18 @@ abbrev pub answer_of : {C : Type 0} → Result ℕ Refusal → Answer C
 answer_of (Ok count) = Stands count
 answer_of (Err why) = Refused why
 
--- the answer to each call other than advance and settle, by the count n and the acts that stood before it
+-- the answer to a call that does this, where it is no advance and no settle, by the count n and the acts that stood before it
+abbrev pub Decided : {C : Type 0} → ℕ → List Act → Effect → Answer C → Type 0
+Decided n acts (adds a) r = r ≡ answer_of (returned (refused_act n acts a) (after_effect n acts (adds a)))
+Decided n acts takes_off r = r ≡ answer_of (returned (undo_refused acts) (after_effect n acts takes_off))
+Decided n acts begins r = r ≡ Moved
+Decided n acts (takes_steps k) r = Unit {0}
+Decided n acts ends r = Unit {0}
+Decided n acts moves r = r ≡ Moved
+
+-- the same of a call
 abbrev pub ByDocket : {C : Type 0} → ℕ → List Act → Call → Answer C → Type 0
-ByDocket n acts (Pin mark) r = r ≡ answer_of (returned (refused_act n acts (act.Pin mark)) (after_call n acts (Pin mark)))
-ByDocket n acts (Bar mark) r = r ≡ answer_of (returned (refused_act n acts (act.Bar mark)) (after_call n acts (Bar mark)))
-ByDocket n acts (Strike sheet) r = r ≡ answer_of (returned (refused_act n acts (act.Strike sheet)) (after_call n acts (Strike sheet)))
-ByDocket n acts Undo r = r ≡ answer_of (returned (undo_refused acts) (after_call n acts Undo))
-ByDocket n acts Seek r = r ≡ Moved
-ByDocket n acts (Advance k) r = Unit {0}
-ByDocket n acts Settle r = Unit {0}
-ByDocket n acts Withdraw r = r ≡ Moved
-ByDocket n acts Reopen r = r ≡ Moved
+ByDocket n acts c r = Decided n acts (row c).effect r
 
 -- ---- events
 
@@ -82,22 +83,19 @@ steps_in Moved = 0
 steps_in (Shown p) = p.steps
 steps_in (Final answer) = 0
 
--- the number of steps, n so far, after one event more
-abbrev pub steps_after : {C : Type 0} → ℕ → Call → Answer C → ℕ
-steps_after n (Pin mark) r = n
-steps_after n (Bar mark) r = n
-steps_after n (Strike sheet) r = n
-steps_after n Undo r = n
-steps_after n Seek r = 0
-steps_after n (Advance k) r = n + steps_in r
-steps_after n Settle r = n
-steps_after n Withdraw r = n
-steps_after n Reopen r = n
+-- the number of steps, n so far, after a call that does this
+abbrev pub steps_after : {C : Type 0} → ℕ → Effect → Answer C → ℕ
+steps_after n (adds a) r = n
+steps_after n takes_off r = n
+steps_after n begins r = 0
+steps_after n (takes_steps k) r = n + steps_in r
+steps_after n ends r = n
+steps_after n moves r = n
 
 -- the same after the events of a log
 abbrev pub steps_from : {C : Type 0} → ℕ → List (Event C) → ℕ
 steps_from n [] = n
-steps_from n (e ∷ log) = steps_from (steps_after n e.call e.answer) log
+steps_from n (e ∷ log) = steps_from (steps_after n (row e.call).effect e.answer) log
 
 -- how many steps the advances after the last seek of the log took; a settling's own are not counted
 abbrev pub steps_so_far : {C : Type 0} → List (Event C) → ℕ

@@ -1,5 +1,7 @@
--- The stages of an order, and the calls that each has.
-use Rattle.std.specs.Prelude.{ℕ, zero, suc, Bool, true, false, if◌then◌else◌, List, [], ◌∷◌}
+-- The stages of an order, and what each call is.
+use Rattle.std.specs.Prelude.{ℕ, zero, suc, Bool, if◌then◌else◌, List, [], ◌∷◌, ◌==◌}
+use Rattle.orders.specs.declared.acts.Act.{Act}
+use Rattle.orders.specs.declared.acts.Act.TheVariants as act
 use Rattle.orders.specs.declared.calls.Call.{Call}
 use Rattle.orders.specs.declared.calls.Call.TheVariants.{Pin, Bar, Strike, Undo, Seek, Advance, Settle, Withdraw, Reopen}
 
@@ -9,43 +11,49 @@ pub data Stage : Type 0 where
   seeking : Stage
   settled : Stage
 
--- the stage that has the call
-abbrev pub stage_of : Call → Stage
-stage_of (Pin mark) = marking
-stage_of (Bar mark) = marking
-stage_of (Strike sheet) = marking
-stage_of Undo = marking
-stage_of Seek = marking
-stage_of (Advance n) = seeking
-stage_of Settle = seeking
-stage_of Withdraw = seeking
-stage_of Reopen = settled
-
--- the stage that the call leads to, refused or not
-abbrev pub leads_to : Call → Stage
-leads_to (Pin mark) = marking
-leads_to (Bar mark) = marking
-leads_to (Strike sheet) = marking
-leads_to Undo = marking
-leads_to Seek = seeking
-leads_to (Advance n) = seeking
-leads_to Settle = settled
-leads_to Withdraw = marking
-leads_to Reopen = marking
+-- each stage by a number of its own
+abbrev pub number_of : Stage → ℕ
+number_of marking = 0
+number_of seeking = 1
+number_of settled = 2
 
 -- the two stages are the same
 abbrev pub same_stage : Stage → Stage → Bool
-same_stage marking marking = true
-same_stage marking seeking = false
-same_stage marking settled = false
-same_stage seeking marking = false
-same_stage seeking seeking = true
-same_stage seeking settled = false
-same_stage settled marking = false
-same_stage settled seeking = false
-same_stage settled settled = true
+same_stage a b = number_of a == number_of b
+
+-- what a call does to the acts that stand and to the search
+pub data Effect : Type 0 where
+  -- the act is added at the end, unless it is refused
+  adds : Act → Effect
+  -- the last act is taken off, if one stands
+  takes_off : Effect
+  -- a search begins
+  begins : Effect
+  -- so many steps are taken, or those that remain if fewer
+  takes_steps : ℕ → Effect
+  -- the steps that remain are taken
+  ends : Effect
+  -- neither changes
+  moves : Effect
+
+-- what a call is: the stage that has it, the stage that it leads to, refused or not, and what it does
+pub record Row : Type 0 where
+  pub from : Stage
+  pub to : Stage
+  pub effect : Effect
+
+abbrev pub row : Call → Row
+row (Pin mark) = record { from = marking; to = marking; effect = adds (act.Pin mark) }
+row (Bar mark) = record { from = marking; to = marking; effect = adds (act.Bar mark) }
+row (Strike sheet) = record { from = marking; to = marking; effect = adds (act.Strike sheet) }
+row Undo = record { from = marking; to = marking; effect = takes_off }
+row Seek = record { from = marking; to = seeking; effect = begins }
+row (Advance n) = record { from = seeking; to = seeking; effect = takes_steps n }
+row Settle = record { from = seeking; to = settled; effect = ends }
+row Withdraw = record { from = seeking; to = marking; effect = moves }
+row Reopen = record { from = settled; to = marking; effect = moves }
 
 -- how many of the calls, from the first on, their stages have
 abbrev pub calls_had : Stage → List Call → ℕ
 calls_had stage [] = zero
-calls_had stage (c ∷ calls) = if same_stage stage (stage_of c) then suc (calls_had (leads_to c) calls) else zero
+calls_had stage (c ∷ calls) = if same_stage stage (row c).from then suc (calls_had (row c).to calls) else zero

@@ -1,10 +1,9 @@
 -- One call on an order: what it answers, and where it leaves the order.
-use Rattle.std.specs.Prelude.{◌≡◌, false, List, Some, None, Option}
+use Rattle.std.specs.Prelude.{◌≡◌, true, false, List, Some, None, Option}
 use Rattle.sheets.specs.Judging.{Judging}
 use Rattle.sheets.specs.Scaling.{Scaling}
 use Rattle.orders.specs.declared.acts.Act.{Act}
 use Rattle.orders.specs.declared.calls.Call.{Call}
-use Rattle.orders.specs.declared.calls.Call.TheVariants as call
 use Rattle.orders.specs.declared.calls.Progress.{Progress}
 use Rattle.orders.specs.declared.calls.Answer.{Answer}
 use Rattle.orders.specs.declared.calls.Answer.TheVariants.{Shown, Final}
@@ -14,7 +13,7 @@ use Rattle.orders.specs.declared.stage.Order.TheVariants.{Marking, Seeking, Sett
 use Rattle.orders.specs.Acts.{under}
 use Rattle.orders.specs.Searches.{start, Ended, priced}
 use Rattle.orders.specs.Calls.{Advanced}
-use Rattle.orders.specs.Stages.{Stage, marking, seeking, settled, stage_of, leads_to, same_stage}
+use Rattle.orders.specs.Stages.{Stage, marking, seeking, settled, same_stage, Effect, adds, takes_off, begins, takes_steps, ends, moves, row}
 use Rattle.orders.specs.Logs.{after_call, ByDocket}
 use Rattle.orders.specs.Models.{acts_of}
 
@@ -25,25 +24,22 @@ pub record State : Type 0 where
   pub search : Search
 
 module _ {C : Type 0} (j : Judging) (s : Scaling C) where
-  -- what the call does to the search of an order at t, and what it says of it
-  abbrev pub SearchTurn : State → Call → Answer C → State → Type 0
-  SearchTurn t (call.Pin mark) r u = Unit {0}
-  SearchTurn t (call.Bar mark) r u = Unit {0}
-  SearchTurn t (call.Strike sheet) r u = Unit {0}
-  SearchTurn t call.Undo r u = Unit {0}
-  SearchTurn t call.Seek r u = u.search ≡ start
-  SearchTurn t (call.Advance n) r u = (p : Progress C) × (r ≡ Shown p) × Advanced (under j t.acts) s n t.search p u.search
-  SearchTurn t call.Settle r u = (last : Search) × (r ≡ Final (priced s last.held)) × Ended (under j t.acts) s t.search last
-  SearchTurn t call.Withdraw r u = Unit {0}
-  SearchTurn t call.Reopen r u = Unit {0}
+  -- what a call that does this makes of the search of an order at t, and what it says of it
+  abbrev pub SearchTurn : State → Effect → Answer C → State → Type 0
+  SearchTurn t (adds a) r u = Unit {0}
+  SearchTurn t takes_off r u = Unit {0}
+  SearchTurn t begins r u = u.search ≡ start
+  SearchTurn t (takes_steps n) r u = (p : Progress C) × (r ≡ Shown p) × Advanced (under j t.acts) s n t.search p u.search
+  SearchTurn t ends r u = (last : Search) × (r ≡ Final (priced s last.held)) × Ended (under j t.acts) s t.search last
+  SearchTurn t moves r u = Unit {0}
 
   -- the stage of t has the call c, which is answered r and leads to u
   pub record Turn (t : State) (c : Call) (r : Answer C) (u : State) : Type 0 where
-    pub from : t.stage ≡ stage_of c
-    pub to : u.stage ≡ leads_to c
+    pub from : same_stage t.stage (row c).from ≡ true
+    pub to : u.stage ≡ (row c).to
     pub acts : u.acts ≡ after_call j.count t.acts c
     pub decided : ByDocket j.count t.acts c r
-    pub searches : SearchTurn t c r u
+    pub searches : SearchTurn t (row c).effect r u
 
 -- ---- the orders of the code
 
@@ -76,5 +72,5 @@ module _ {J S C : Type 0} {j : _} {s : _} (judging : J → Judging) (scaling : S
 
   -- so it does, or the stage of the order does not have the call
   abbrev pub Answered : Order J S C j s → Call → Option (Order J S C j s × Answer C) → Type 0
-  Answered order c None = same_stage (state_of order).stage (stage_of c) ≡ false
+  Answered order c None = same_stage (state_of order).stage (row c).from ≡ false
   Answered order c (Some next) = Turned order c next.0 next.1
