@@ -3,17 +3,11 @@ use Rattle.std.specs.Prelude.{ℕ, ◌≤◌, bit_and, nat_lt, refl}
 use Rattle.std.proofs.Common.{sym, ◌∙◌, inl, inr, ⊎_elim, arith}
 use Rattle.std.proofs.lemmas.Bool.{cases_order, and_from, and_parts, lt-ltb, le-ltb, ltb-true}
 use Rattle.sheets.specs.Sheets.{has, Subset}
-use Rattle.sheets.specs.Scaling.{OrderLaws, ScaleLaws}
+use Rattle.total_order.specs.laws.Orders.{number_order}
+use Rattle.sheets.specs.Scaling.{ScaleLaws}
 use Rattle.sheets.specs.Bits.{has_and}
-use Rattle.sheets.specs.Scales.{order_from}
 use Rattle.sheets.proofs.Subsets.{subset_le}
 use Rattle.conducts.specs.Numbers.{number_of}
-
-number_order : OrderLaws nat_lt
-number_order = order_from nat_lt
-    (λ a b. ⊎_elim (λ e. inr (inl e)) (⊎_elim (λ l. inl (lt-ltb a b l)) (λ l. inr (inr (lt-ltb b a l)))) (cases_order a b))
-    (λ a. le-ltb a a (omega arith))
-    (λ a b c t u. lt-ltb a c (omega (arith, ltb-true a b t, ltb-true b c u)))
 
 -- more marks make no smaller number
 counted_le : (p z counted : ℕ) → Subset p z → bit_and p counted ≤ bit_and z counted

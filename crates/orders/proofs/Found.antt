@@ -5,33 +5,13 @@ use Rattle.sheets.specs.Sheets.{width, has, MarksBelow, Part, Within, Full, Earl
 use Rattle.sheets.specs.Judging.{Judging, JudgeLaws}
 use Rattle.sheets.specs.Scaling.{Scaling, ScaleLaws}
 use Rattle.sheets.specs.Bits.{has_high, marks_below, same_marks}
+use Rattle.total_order.specs.laws.Orders.{at_most_trans, less_at_most}
 use Rattle.orders.specs.Search.{Search}
 use Rattle.orders.specs.Searches.{start, present_at, absent_at, dismissed, floor_not_below, dead_at, floor_not_below_at, dismisses, stepped, Steps, none, more, Ended, priced}
 use Rattle.orders.specs.Best.{Best}
 use Rattle.orders.proofs.Dismissals.{Well, well_wide, Agrees, Precedes, Past, UpTo, dismissed_held, dismissed_well, precedes_on, past_from, past_to}
 use Rattle.orders.proofs.Decided.{present_same, place_part, place_within, place_full, full_all, full_open}
 use Rattle.orders.proofs.Walks.{deeper, step_cases, steps_join}
-
--- ---- the order of costs
-
-module _ {C : Type 0} (s : Scaling C) (laws : ScaleLaws s) where
-  -- c ≤ b and b ≤ a
-  at_most_trans : (a b c : C) → s.below a b ≡ false → s.below b c ≡ false → s.below a c ≡ false
-  at_most_trans a b c ab bc = ⊎_elim (λ t. absurd (go t (laws.order.some b c))) (λ f. f) (cases_Bool (s.below a c))
-    where
-      go : s.below a c ≡ true → (s.below b c ≡ true) ⊎ ((b ≡ c) ⊎ (s.below c b ≡ true)) → ⊥
-      go t (inl lt) = both_ways (s.below b c) bc lt
-      go t (inr (inl e)) = both_ways (s.below a b) ab (ap (s.below a) e ∙ t)
-      go t (inr (inr gt)) = both_ways (s.below a b) ab (laws.order.transitive a c b t gt)
-
-  -- a < b and b ≤ c
-  less_at_most : (a b c : C) → s.below a b ≡ true → s.below c b ≡ false → s.below a c ≡ true
-  less_at_most a b c ab cb = go (laws.order.some a c)
-    where
-      go : (s.below a c ≡ true) ⊎ ((a ≡ c) ⊎ (s.below c a ≡ true)) → s.below a c ≡ true
-      go (inl lt) = lt
-      go (inr (inl e)) = absurd (both_ways (s.below c b) cb (ap (λ x. s.below x b) (sym e) ∙ ab))
-      go (inr (inr gt)) = absurd (both_ways (s.below c b) cb (laws.order.transitive c a b gt ab))
 
 -- ---- the order of sheets
 
@@ -123,7 +103,7 @@ module _ {C : Type 0} (j : Judging) (s : Scaling C) (jl : JudgeLaws j) (sl : Sca
         → s.below (s.cost z) (s.cost h) ≡ false
     within_no_cheaper h z dear within =
         let floor = s.floor (present_at j.count x) (absent_at j.count x) in
-        at_most_trans s sl (s.cost z) floor (s.cost h)
+        at_most_trans s.below sl.order (s.cost z) floor (s.cost h)
         (sl.bound (present_at j.count x) (absent_at j.count x) z part within)
         (not-true (s.below floor (s.cost h)) dear)
 
@@ -153,7 +133,7 @@ module _ {C : Type 0} (j : Judging) (s : Scaling C) (jl : JudgeLaws j) (sl : Sca
           → (z : ℕ) → j.allows z → before z → s.below (s.cost x.present) (s.cost z) ≡ true
       less None cheap b z al l = absurd (b z al l)
       less (Some h) cheap b z al l =
-          less_at_most s sl (s.cost x.present) (s.cost h) (s.cost z)
+          less_at_most s.below sl.order (s.cost x.present) (s.cost h) (s.cost z)
           (ap (λ f. s.below f (s.cost h)) (sym its_floor) ∙ not-false (s.below (s.floor (present_at j.count x) (absent_at j.count x)) (s.cost h)) cheap)
           (b.2 z al l)
 

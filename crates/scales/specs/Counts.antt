@@ -8,7 +8,7 @@ use Rattle.std.proofs.lemmas.Bool.{cases_order, lt-ltb, le-ltb, ltb-true, and_pa
 use Rattle.sheets.specs.Sheets.{width, has, Part, Within}
 use Rattle.sheets.specs.Scaling.{ScaleLaws}
 use Rattle.sheets.specs.Parts.{apart_turned}
-use Rattle.sheets.specs.Scales.{order_from}
+use Rattle.total_order.specs.laws.Orders.{number_order}
 use Rattle.sheets.specs.Counting.{marks_same, marks_le}
 use Rattle.scales.specs.Distances.{differ_at, distance_of}
 
@@ -42,10 +42,7 @@ module _ (house : ℕ) where
 
   pub distance_laws : ScaleLaws (distance_of house)
   distance_laws = record {
-    order = order_from nat_lt
-        (λ a b. ⊎_elim (λ e. inr (inl e)) (⊎_elim (λ l. inl (lt-ltb a b l)) (λ l. inr (inr (lt-ltb b a l)))) (cases_order a b))
-        (λ a. le-ltb a a (omega arith))
-        (λ a b c t u. lt-ltb a c (omega (arith, ltb-true a b t, ltb-true b c u)));
+    order = number_order;
     bound = λ p a z part within. le-ltb ((distance_of house).cost z) ((distance_of house).floor p a)
         (marks_le width (λ i. (has p i || has a i) && differ_at p house i) (differ_at z house) (decided_differ p a z part within));
     exact = λ p a part every. marks_same width (λ i. (has p i || has a i) && differ_at p house i) (differ_at p house)

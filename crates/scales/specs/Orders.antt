@@ -8,8 +8,8 @@ use Rattle.std.specs.Cmp.Lexicographic.{slice_partial_cmp}
 use Rattle.std.proofs.lemmas.Cmp.{same_from_slice_cmp_tested, int_ranked}
 use Rattle.std.proofs.lemmas.Int.{ints, by_lt_z}
 use Rattle.std.proofs.lemmas.Bool.{both_ways, cases_eq}
-use Rattle.sheets.specs.Scaling.{OrderLaws}
-use Rattle.sheets.specs.Scales.{order_from, by_first, by_rest, by_above, by_neither, ways, decides_some, decides_transitive}
+use Rattle.total_order.specs.Orders.{OrderLaws}
+use Rattle.total_order.specs.laws.Orders.{order_from, by_first, by_rest, by_above, by_neither, ways, decides_some, decides_transitive}
 use Rattle.scales.specs.Wishes.{down_from, first_less}
 
 -- ---- signed numbers

@@ -12,7 +12,7 @@ use Rattle.sheets.specs.Scaling.{ScaleLaws}
 use Rattle.sheets.specs.Parts.{full_others}
 use Rattle.sheets.proofs.Held.{sure_holds, holds_possible}
 use Rattle.sheets.proofs.Lists.{all_wider}
-use Rattle.sheets.specs.Scales.{order_from}
+use Rattle.total_order.specs.laws.Orders.{order_from}
 use Rattle.rulefile.specs.declared.wishes.Wish.{Wish}
 use Rattle.rulefile.specs.Model.{WishModel, wish_of}
 use Rattle.scales.specs.declared.cost.LevelCost.{LevelCost}

@@ -5,7 +5,7 @@ use Rattle.std.specs.Int.{int_min}
 use Rattle.std.specs.List.{list_all, list_any}
 use Rattle.sheets.specs.Sheets.{Sheet, others}
 use Rattle.sheets.specs.Literals.{held, holds}
-use Rattle.sheets.specs.Scaling.{first_decides}
+use Rattle.total_order.specs.Orders.{first_decides}
 use Rattle.rulefile.specs.Model.{WishModel}
 
 -- the weight of the wish, if all its literals hold in the sheet z

@@ -1,5 +1,6 @@
 -- What a scale means, the laws that it keeps, and the scale that is made of two.
-use Rattle.std.specs.Prelude.{◌≡◌, Bool, true, false, not, ◌&&◌, ◌||◌, ◌⊎◌}
+use Rattle.std.specs.Prelude.{◌≡◌, Bool, true, false}
+use Rattle.total_order.specs.Orders.{OrderLaws, first_decides}
 use Rattle.sheets.specs.Sheets.{Sheet, Part, Within, Full}
 
 -- a cost for each sheet, a floor for each part-sheet, by its present and its absent marks, and an order of costs
@@ -8,17 +9,6 @@ pub record Scaling (C : Type 0) : Type 0 where
   pub floor : Sheet → Sheet → C
   pub below : C → C → Bool
 
--- what holds of the order of costs
-pub record OrderLaws {C : Type 0} (below : C → C → Bool) : Type 0 where
-  -- of two costs one is below the other, or they are the same
-  pub some : (a b : C) → (below a b ≡ true) ⊎ ((a ≡ b) ⊎ (below b a ≡ true))
-  -- nothing is below itself
-  pub irreflexive : (a : C) → below a a ≡ false
-  -- of two costs not both are below the other
-  pub asymmetric : (a b : C) → below a b ≡ true → below b a ≡ false
-  -- what is below something below c is below c
-  pub transitive : (a b c : C) → below a b ≡ true → below b c ≡ true → below a c ≡ true
-
 -- what holds of each scale; p and a are the present and the absent marks of a part-sheet
 pub record ScaleLaws {C : Type 0} (s : Scaling C) : Type 0 where
   pub order : OrderLaws s.below
@@ -26,10 +16,6 @@ pub record ScaleLaws {C : Type 0} (s : Scaling C) : Type 0 where
   pub bound : (p a z : Sheet) → Part p a → Within p a z → s.below (s.cost z) (s.floor p a) ≡ false
   -- on a full part-sheet it is that sheet's cost
   pub exact : (p a : Sheet) → Part p a → Full p a → s.floor p a ≡ s.cost p
-
--- x is below y, or neither is below the other and the rest decides, which is what is compared after them
-abbrev pub first_decides : {C : Type 0} → (C → C → Bool) → C → C → Bool → Bool
-first_decides below x y rest = below x y || (not (below y x) && rest)
 
 -- costs and floors are pairs, and the first part is compared before the second
 abbrev pub first_then : {C D : Type 0} → Scaling C → Scaling D → Scaling (C × D)
