@@ -25,7 +25,7 @@ use Rattle.orders.specs.Searches.{priced}
 use Rattle.orders.specs.Stages.{marking, calls_had}
 use Rattle.orders.specs.Logs.{after_call, after_calls, docket, answer_of, ByDocket, calls_of, Kept, Conducted}
 use Rattle.report.specs.Lines.{act_line, call_of, refused_by, act_lines, answer_line}
-use Rattle.report.specs.Logs.{calls_for, final_text, answer_text, log_text}
+use Rattle.report.specs.Logs.{calls_for, final_text, IsOrderText, answer_text, log_text}
 use Rattle.report.specs.Reports.{judge_of, scale_of, IsReport}
 
 abbrev Cost : Type 0
@@ -133,23 +133,31 @@ module _ (j : Judging) (s : Scaling Cost) (room : ℕ) (calls : List Call) (log 
       let all : calls_of log ≡ calls_for acts = kept.answered ∙ ap (λ (m : ℕ). take m calls) many ∙ take_all (length calls) calls (omega arith) ∙ e in
       rest_told acts [] log refl all
 
+-- the log of an order that was conducted
+pub order_told : (j : Judging) (s : Scaling Cost) (room : ℕ) (acts : List Act) (calls : List Call) (before after : List (Event Cost))
+    → Conducted j s room calls before after → before ≡ [] → calls ≡ calls_for acts → length calls ≤ room → IsOrderText j s acts (log_text after)
+order_told j s room acts calls before after done none e enough =
+    let all : after ≡ done.events = rw none at done.added in
+    let t = told j s room calls done.events done.kept acts e enough in
+    rw all (record { held = t.held; best = t.best; lines = t.lines })
+
 -- ---- the report
 
 answer_told : (f : FileModel) (held : Option ℕ) → final_text (priced (scale_of f) held) ≡ answer_line f held
 answer_told f None = refl
 answer_told f (Some z) = refl
 
-pub lines_told : (f : FileModel) (room : ℕ) (calls : List Call) (log : List (Event Cost)) → Kept (judge_of f) (scale_of f) room calls log → calls ≡ calls_for f.acts → length calls ≤ room → IsReport (Ok f) (log_text log)
-lines_told f room calls log kept e enough =
+report_told : (f : FileModel) (text : List ℕ) → IsOrderText (judge_of f) (scale_of f) f.acts text → IsReport (Ok f) text
+report_told f text told =
     let same : min f.count f.count ≡ f.count = omega arith in
-    let t = subst (λ (m : ℕ). Told (judge_of f) (scale_of f) m [] f.acts (log_text log)) same (told (judge_of f) (scale_of f) room calls log kept f.acts e enough) in
-    (t.held, t.best, rw answer_told at t.lines)
+    let acts : List Call = map call_of f.acts in
+    (
+      told.held,
+      subst (λ (m : ℕ). Best (under (judge_of f) (docket m acts)) (scale_of f) (priced (scale_of f) told.held)) same told.best,
+      told.lines ∙ ap₂ (λ (m : ℕ) (line : List ℕ). act_lines m [] f.acts ++ line) same (answer_told f told.held),
+    )
 
--- the log of a conducted order, over judges and scales of the file
-pub conducted_told : (f a b d : FileModel) (h room : ℕ) (calls : List Call) (before after : List (Event Cost)) → a ≡ f → b ≡ f → d ≡ f → h ≡ f.house
-    → Conducted (both (book_of a) (list_of b)) (first_then (levels_of d.wishes) (distance_of h)) room calls before after
-    → before ≡ [] → calls ≡ calls_for f.acts → length calls ≤ room → IsReport (Ok f) (log_text after)
-conducted_told f a b d h room calls before after ea eb ed eh done none e enough =
-    let c = rw (ea, eb, ed, eh) at done in
-    let all : after ≡ c.events = rw none at c.added in
-    rw all (lines_told f room calls c.events c.kept e enough)
+-- over judges and scales of the file
+pub made_told : (f a b d : FileModel) (h : ℕ) (acts : List Act) (text : List ℕ) → a ≡ f → b ≡ f → d ≡ f → h ≡ f.house → acts ≡ f.acts
+    → IsOrderText (both (book_of a) (list_of b)) (first_then (levels_of d.wishes) (distance_of h)) acts text → IsReport (Ok f) text
+made_told f a b d h acts text ea eb ed eh eacts told = report_told f text (rw (ea, eb, ed, eh, eacts) at told)

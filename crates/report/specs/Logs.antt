@@ -1,6 +1,8 @@
 -- The text of a log of the calls on an order.
-use Rattle.std.specs.Prelude.{ℕ, List, [], ◌∷◌, ◌++◌, map, Some, None, Option}
+use Rattle.std.specs.Prelude.{◌≡◌, ℕ, List, [], ◌∷◌, ◌++◌, map, Some, None, Option}
 use Rattle.std.specs.List.{flat_map}
+use Rattle.sheets.specs.Judging.{Judging}
+use Rattle.sheets.specs.Scaling.{Scaling}
 use Rattle.rulefile.specs.declared.records.Act.{Act}
 use Rattle.scales.specs.declared.cost.LevelCost.{LevelCost}
 use Rattle.scales.specs.Wishes.{top, down_from, cost_at}
@@ -9,7 +11,11 @@ use Rattle.orders.specs.declared.calls.Call.TheVariants.{Seek, Settle}
 use Rattle.orders.specs.declared.calls.Answer.{Answer}
 use Rattle.orders.specs.declared.calls.Answer.TheVariants.{Stands, Refused, Moved, Shown, Final}
 use Rattle.orders.specs.declared.calls.Event.{Event}
-use Rattle.report.specs.Lines.{call_of, act_line, sheet_line, no_sheet_line}
+use Rattle.orders.specs.Acts.{under}
+use Rattle.orders.specs.Best.{Best}
+use Rattle.orders.specs.Logs.{docket}
+use Rattle.orders.specs.Searches.{priced}
+use Rattle.report.specs.Lines.{call_of, act_line, act_lines, sheet_line, no_sheet_line}
 
 -- the calls of a report: the acts of the file, and then a search to its end
 abbrev pub calls_for : List Act → List Call
@@ -19,6 +25,13 @@ calls_for acts = map call_of acts ++ (Seek ∷ Settle ∷ [])
 abbrev pub final_text : Option (ℕ × (LevelCost × ℕ)) → List ℕ
 final_text None = no_sheet_line
 final_text (Some a) = sheet_line a.0 (down_from top (cost_at a.1.0.levels)) a.1.1
+
+-- the text of an order over the judge and the scale after the acts: a line for each act, and that of the cheapest sheet that
+-- keeps those that then stand, or of no sheet
+pub record IsOrderText (j : Judging) (s : Scaling (LevelCost × ℕ)) (acts : List Act) (text : List ℕ) : Type 0 where
+  pub held : Option ℕ
+  pub best : Best (under j (docket j.count (map call_of acts))) s (priced s held)
+  pub lines : text ≡ act_lines j.count [] acts ++ final_text (priced s held)
 
 -- the line of an answer; nothing is said of a call that leads to another stage, or advances
 abbrev pub answer_text : Answer (LevelCost × ℕ) → List ℕ

@@ -2,14 +2,14 @@
 ghost use Rattle.std.specs.Prelude.{◌≡◌, IfOk, Ok};
 ghost use Rattle.rulefile.specs.Answers.{file_of};
 ghost use Rattle.report.specs.Lines.{call_of};
-ghost use Rattle.report.specs.Logs.{calls_for, log_text};
+ghost use Rattle.report.specs.Logs.{calls_for, log_text, IsOrderText};
 ghost use Rattle.report.specs.Reports.{ReportThatFits};
 
 use judges::{Book, PrinterList};
 use orders::{Call, Event, conduct};
 use rulefile::{Act, RuleFile};
 use scales::{Distance, LevelCost, Levels};
-use sheets::{Both, FirstThen};
+use sheets::{Both, FirstThen, Judge, Scale};
 use std::alloc::{AllocError, Global};
 use std::rc::Rc;
 
@@ -38,12 +38,25 @@ fn calls_after(heap: Global, acts: &[Act]) -> Result<Vec<Call>, AllocError>
         .collect(heap)
 }
 
+// The log of the order over any judge that settles after the acts.
+fn order_log<J: Judge + Drop>(
+    heap: Global,
+    judge: J,
+    scale: FirstThen<Levels, Distance>,
+    acts: &[Act],
+) -> Result<Vec<Event<Cost>>, AllocError>
+    ensures { IfOk result (λ log. IsOrderText (J.judging judge) (⟦<FirstThen<Levels, Distance> as Scale>⟧.scaling scale) acts.now (log_text log.items)) }
+{
+    let calls = calls_after(heap, acts)?;
+    let mut log = Vec::with_capacity(heap, calls.len())?;
+    conduct(judge, scale, calls.as_slice(), &mut log);
+    Ok(log)
+}
+
 // The log of the order that settles after the acts of the file: its text is the report.
 pub(crate) fn settled_log(heap: Global, file: RuleFile) -> Result<Vec<Event<Cost>>, AllocError>
     ensures { IfOk result (λ log. ReportThatFits (Ok (file_of file)) (log_text log.items)) }
 {
-    let calls = calls_after(heap, file.acts.as_slice())?;
-    let mut log = Vec::with_capacity(heap, calls.len())?;
     let house = file.house;
     let shared = Rc::new(heap, file)?;
     let judge = Both {
@@ -51,9 +64,8 @@ pub(crate) fn settled_log(heap: Global, file: RuleFile) -> Result<Vec<Event<Cost
         second: PrinterList::new(shared.clone()?),
     };
     let scale = FirstThen {
-        first: Levels::new(shared),
+        first: Levels::new(shared.clone()?),
         then: Distance::new(house),
     };
-    conduct(judge, scale, calls.as_slice(), &mut log);
-    Ok(log)
+    order_log(heap, judge, scale, shared.acts.as_slice())
 }

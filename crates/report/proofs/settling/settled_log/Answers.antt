@@ -1,15 +1,18 @@
-use Rattle.std.proofs.Common.{◌≡◌, ℕ, ◌≤◌, List, length, Ok, vec_items, rc_value, ap, arith}
+use Rattle.std.proofs.Common.{◌≡◌, List, ℕ, Ok, Err, Result, IfOk, length, vec_items, rc_value, ap, arith}
 use Rattle.rulefile.specs.declared.files.RuleFile.{RuleFile}
 use Rattle.rulefile.specs.Answers.{file_of}
-use Rattle.orders.specs.Models.{room_of}
-use Rattle.report.specs.Logs.{calls_for, log_text}
+use Rattle.report.specs.Logs.{log_text}
 use Rattle.report.specs.Reports.{IsReport, ReportThatFits}
-use Rattle.report.proofs.Told.{conducted_told}
+use Rattle.report.proofs.Told.{made_told}
 use Rattle.report.proofs.Lengths.{lines_short}
 use Rattle.report.proofs.settling.settled_log.Goals as goal
 
 fitting : (file : RuleFile) (lines : List ℕ) → IsReport (Ok (file_of file)) lines → ReportThatFits (Ok (file_of file)) lines
 fitting file lines l = record { meaning = l; short = omega (arith, ap length l.2, lines_short file l.0) }
+
+if_ok : {A E : Type 0} (P Q : A → Type 0) → ((x : A) → P x → Q x) → (r : Result A E) → IfOk r P → IfOk r Q
+if_ok P Q to (Ok x) p = to x p
+if_ok P Q to (Err e) p = p
 
 pub returns : goal.returns
 returns c =
@@ -17,14 +20,9 @@ returns c =
     let held = c.in_ok-shared.ensures.ok in
     let book : file_of (rc_value c.new-2.result.file) ≡ file_of file = cc (c.in_ok-clone.ensures.cases, held) in
     let list : file_of (rc_value c.new-3.result.file) ≡ file_of file = cc (c.in_ok-clone-2.ensures.cases, held) in
-    let levels : file_of (rc_value c.new-4.result.file) ≡ file_of file = cc held in
-    let log = c.in_ok-log.log in
-    let made = c.in_ok-log.ensures in
-    let calls = c.as_slice-2.result.now in
-    let made_calls = c.in_ok-calls.calls in
-    let called : calls ≡ calls_for (file_of file).acts = cc (c.in_ok-calls.ensures, c.as_slice.ensures.value, c.as_slice-2.ensures.value) in
-    let enough : length calls ≤ room_of log =
-    let many = ap length c.as_slice-2.ensures.value in
-    omega (arith, made_calls.ok.0, c.len.ensures, made.len, made.capacity) in
-    fitting file (log_text (vec_items c.conduct.new.log))
-    (conducted_told (file_of file) (file_of (rc_value c.new-2.result.file)) (file_of (rc_value c.new-3.result.file)) (file_of (rc_value c.new-4.result.file)) c.new-5.result.house (room_of log) calls (vec_items log) (vec_items c.conduct.new.log) book list levels c.new-5.ensures c.conduct.ensures.log made.items called enough)
+    let levels : file_of (rc_value c.new-4.result.file) ≡ file_of file = cc (c.in_ok-clone-3.ensures.cases, held) in
+    let acts : c.as_slice.result.now ≡ (file_of file).acts = cc (c.as_slice.ensures.value, c.deref.ensures, held) in
+    if_ok _ _
+    (λ log told. fitting file (log_text (vec_items log))
+    (made_told (file_of file) (file_of (rc_value c.new-2.result.file)) (file_of (rc_value c.new-3.result.file)) (file_of (rc_value c.new-4.result.file)) c.new-5.result.house c.as_slice.result.now (log_text (vec_items log)) book list levels c.new-5.ensures acts told))
+    c.order_log.result c.order_log.ensures
