@@ -1,4 +1,4 @@
-// Tests of the report: its lines, its length, and what it does with the buffer.
+// Tests of the report: its lines, its length, and what it does with the buffer; and of what is made from the bytes of a file.
 #![tactic(auto)]
 
 #[cfg(test)]
@@ -7,6 +7,8 @@ mod acts;
 mod buffers;
 #[cfg(test)]
 mod build;
+#[cfg(test)]
+mod from_bytes;
 #[cfg(test)]
 mod lines;
 #[cfg(test)]
