@@ -10,6 +10,8 @@ ghost use Rattle.rulefile.specs.Reading.{input_bytes, LeavesAfter, GivesAtMost};
 ghost use Rattle.report.specs.Reports.{Report};
 
 mod failures;
+#[cfg(test)]
+mod tests;
 
 use failures::Failure;
 use report::{LEAST_BUFFER, report};

@@ -1,4 +1,5 @@
-// Tests of the report: its lines, its length, and what it does with the buffer.
+// Tests of the report: its lines, its length, and what it does with the buffer; of verdicts on bytes; and of what errors
+// and costs print.
 #![tactic(auto)]
 
 #[cfg(test)]
@@ -11,3 +12,5 @@ mod build;
 mod lines;
 #[cfg(test)]
 mod verdicts;
+#[cfg(test)]
+mod words;
