@@ -1,4 +1,5 @@
-// Tests of the report: its lines, its length, and what it does with the buffer; and of what is made from the bytes of a file.
+// Tests of the report: its lines, its length, and what it does with the buffer; of verdicts, judges and scales from the bytes
+// of a file; and of what errors and costs print.
 #![tactic(auto)]
 
 #[cfg(test)]
@@ -13,3 +14,5 @@ mod from_bytes;
 mod lines;
 #[cfg(test)]
 mod verdicts;
+#[cfg(test)]
+mod words;
