@@ -1,7 +1,8 @@
 // The book: the rules of a file, as a judge.
-ghost use Rattle.std.specs.Prelude.{◌≡◌, map};
+ghost use Rattle.std.specs.Prelude.{◌≡◌, map, IfOk};
 ghost use Rattle.std.specs.Rc.{rc_value};
 ghost use Rattle.rulefile.specs.Answers.{file_of};
+ghost use Rattle.rulefile.specs.Format.{decode, file_or_head_alone};
 ghost use Rattle.rulefile.specs.Model.{rule_of};
 ghost use Rattle.judges.specs.Books.{lawful, book_of};
 ghost use Rattle.rulefile.proofs.Fits.{fit_parts};
@@ -9,8 +10,9 @@ ghost use Rattle.judges.specs.BookLaws.{book_laws};
 
 use crate::parts::has_dead_rule;
 use crate::verdicts::{Verdict, rules_verdict};
-use rulefile::{Rule, RuleFile};
+use rulefile::{Rule, RuleFile, read_or_head_alone};
 use sheets::{Judge, PartSheet, Sheet};
+use std::alloc::{AllocError, Global};
 use std::rc::Rc;
 
 // Allows the lawful sheets of a file, which it shares with other judges and scales. It holds what `PrinterList` does, and
@@ -27,6 +29,14 @@ impl Book {
         ensures { result.file ≡ file }
     {
         Book { file }
+    }
+
+    // The book of the file that the bytes stand for; refused bytes stand for a head alone.
+    pub fn from_bytes(heap: Global, bytes: &[u8]) -> Result<Book, AllocError>
+        ensures { IfOk result (λ b. file_of b.file.value ≡ file_or_head_alone (decode bytes.now)) }
+    {
+        let file = read_or_head_alone(heap, bytes)?;
+        Ok(Book::new(Rc::new(heap, file)?))
     }
 }
 

@@ -1,16 +1,18 @@
 // The printer's list: the clauses of a file, as a judge.
-ghost use Rattle.std.specs.Prelude.{◌≡◌, map};
+ghost use Rattle.std.specs.Prelude.{◌≡◌, map, IfOk};
 ghost use Rattle.std.specs.Rc.{rc_value};
 ghost use Rattle.std.specs.List.{list_all, list_any};
 ghost use Rattle.sheets.specs.Literals.{held};
 ghost use Rattle.rulefile.specs.Answers.{file_of};
+ghost use Rattle.rulefile.specs.Format.{decode, file_or_head_alone};
 ghost use Rattle.rulefile.specs.Model.{clause_of};
 ghost use Rattle.judges.specs.Clauses.{list_of};
 ghost use Rattle.rulefile.proofs.Fits.{fit_parts};
 ghost use Rattle.judges.specs.ListLaws.{list_laws};
 
-use rulefile::{Clause, RuleFile};
+use rulefile::{Clause, RuleFile, read_or_head_alone};
 use sheets::{Interpretation, Judge, PartSheet, within_count};
+use std::alloc::{AllocError, Global};
 use std::rc::Rc;
 
 // Allows the sheets of marks below the count in which each clause of a file has a literal that holds.
@@ -26,6 +28,14 @@ impl PrinterList {
         ensures { result.file ≡ file }
     {
         PrinterList { file }
+    }
+
+    // The printer's list of the file that the bytes stand for; refused bytes stand for a head alone.
+    pub fn from_bytes(heap: Global, bytes: &[u8]) -> Result<PrinterList, AllocError>
+        ensures { IfOk result (λ l. file_of l.file.value ≡ file_or_head_alone (decode bytes.now)) }
+    {
+        let file = read_or_head_alone(heap, bytes)?;
+        Ok(PrinterList::new(Rc::new(heap, file)?))
     }
 }
 

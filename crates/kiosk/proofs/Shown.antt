@@ -1,8 +1,10 @@
--- What is read is enough for the report on all that there is, and what is written is that report.
-use Rattle.std.proofs.Common.{◌≡◌, ℕ, ◌-◌, ◌≤◌, List, [], ◌∷◌, ◌++◌, zero, suc, refl, ap₂, length, take, Option, None, Some, IfSome, sym, subst, ap, ◌∙◌, append_assoc, arith}
-use Rattle.std.specs.Option.{option_map}
+-- What is made is the report on all that there is, and what is written is its front.
+use Rattle.std.proofs.Common.{◌≡◌, ℕ, ◌+◌, ◌-◌, ◌≤◌, List, ◌++◌, length, take, drop, Option, None, Some, IfSome, sym, subst, ap, ◌∙◌, arith}
+use Rattle.std.proofs.lemmas.List.{take_rest}
+use Rattle.std.specs.Io.KnownBytes.{Keeps, Appends}
+use Rattle.std.proofs.KnownBytes.{Appends-trans, Appends-kept}
+use lib.Seq.{take-add, take-append_seam}
 use Rattle.rulefile.specs.Format.{decode}
-use Rattle.rulefile.specs.Reading.{Enough}
 use Rattle.report.specs.Reports.{IsReport, ReportThatFits, Report}
 
 same_report : (bytes others lines : List ℕ) → decode bytes ≡ decode others → Report bytes lines → Report others lines
@@ -11,22 +13,24 @@ same_report bytes others lines e r = record {
   only = λ other h. r.only other (subst (λ d. IsReport d other) (sym e) h);
 }
 
--- the bytes that were read are the first so many of those that are known, so their report is that of all
-pub whole : (known : Option (List ℕ)) (limit : ℕ) (before read lines : List ℕ) (A : List ℕ → Type 0) → Enough limit → before ≡ [] → Report read lines → A lines
-    → IfSome (option_map (take limit) known) (λ xs. read ≡ before ++ xs) → IfSome known (λ bytes. (lines : List ℕ) × Report bytes lines × A lines)
-whole None limit before read lines A enough none report writes same = same
-whole (Some all) limit before read lines A enough none report writes same =
-    (lines, same_report read all lines (ap decode (same ∙ ap (λ l. l ++ take limit all) none) ∙ enough all) report, writes)
+-- bytes that mean what all that are known do have the same report
+pub whole : (known : Option (List ℕ)) (read lines : List ℕ) → Report read lines → IfSome known (λ bytes. decode read ≡ decode bytes) → IfSome known (λ bytes. Report bytes lines)
+whole None read lines report means = tt
+whole (Some all) read lines report means = same_report read all lines means report
 
--- the front of the buffer: the lines, up to a length that is not less
-front_of : (lines rest : List ℕ) (len : ℕ) → length lines ≤ len → take (length lines) (take len (lines ++ rest)) ≡ lines
-front_of [] rest len le = refl
-front_of (x ∷ xs) rest zero le = absurd (omega arith)
-front_of (x ∷ xs) rest (suc len) le = ap (λ l. x ∷ l) (front_of xs rest len (omega arith))
+-- the lines stand at the front of the buffer
+pub front : (lines rest after : List ℕ) (n : ℕ) → n ≡ length lines → after ≡ lines ++ rest → take n after ≡ lines
+front lines rest after n many e = ap (take n) e ∙ ap (λ k. take k (lines ++ rest)) many ∙ take-append_seam lines rest
 
-pub front : (lines drop after rest shown : List ℕ) (n len : ℕ) → n ≡ length lines → after ≡ lines ++ drop → n ≤ len
-    → shown ≡ take len (after ++ rest) → take (n - 0) shown ≡ lines
-front lines drop after rest shown n len many made le e =
-    let m : n - 0 ≡ length lines = omega arith in
-    ap₂ take m (e ∙ ap (λ l. take len (l ++ rest)) made ∙ ap (take len) (append_assoc lines drop rest))
-    ∙ front_of lines (drop ++ rest) len (omega arith)
+-- n bytes more were written behind the first w
+pub written_more : (old mid new : Option (List ℕ)) (bytes : List ℕ) (w n m : ℕ) → m ≡ w + n → Appends old mid (take w bytes)
+    → Appends mid new (take n (take (length bytes - w) (drop w bytes))) → Appends old new (take m bytes)
+written_more old mid new bytes w n m more before written =
+    subst (Appends old new)
+    (ap (λ l. take w bytes ++ take n l) (take_rest bytes w) ∙ sym (take-add w n bytes) ∙ ap (λ k. take k bytes) (sym more))
+    (Appends-trans _ _ _ _ _ before written)
+
+-- no byte was written
+pub written_same : (old mid new : Option (List ℕ)) (bytes : List ℕ) (w m : ℕ) → m ≡ w → Appends old mid (take w bytes) → Keeps mid new → Appends old new (take m bytes)
+written_same old mid new bytes w m same before kept =
+    subst (Appends old new) (ap (λ k. take k bytes) (sym same)) (Appends-kept _ _ _ _ before kept)

@@ -1,6 +1,8 @@
 -- What the texts of numbers and marks are.
-use Rattle.std.proofs.Common.{◌≡◌, ℕ, zero, suc, ◌^◌, ◌<◌, Bool, true, false, cond, List, [], ◌∷◌, length, get_or, decimal, filter, sym, refl, ap, ◌∙◌, arith, rules}
+use Rattle.std.proofs.Common.{◌≡◌, ℕ, zero, suc, ◌^◌, ◌<◌, Bool, true, false, cond, List, [], ◌∷◌, length, ℤ, pos, negsuc, get_or, decimal, filter, sym, refl, ap, ◌∙◌, arith, rules}
 use Rattle.std.specs.List.{range_with_len}
+use Rattle.std.specs.Prelude.{unsigned_abs}
+use Rattle.std.specs.Fmt.{signed_decimal}
 use Rattle.std.specs.Str.{all_ascii_digits}
 use Rattle.std.proofs.lemmas.Fmt.{decimal_nonempty, decimal_digit, first_decimal, digits_decimal, digits_value-decimal, decimal-digits_value}
 use Rattle.std.proofs.lemmas.Str.Parse.{IsNumeralModel, numerals_by_fold}
@@ -9,7 +11,7 @@ use Rattle.std.proofs.lemmas.List.FromFn.{get_or-range_with_len}
 use Rattle.std.proofs.lemmas.List.Kept.{AllPairs-filter}
 use Rattle.sheets.specs.Sheets.{width, has}
 use Rattle.report.specs.Lines.{marks}
-use Rattle.report.specs.Theorems.{value_on, Decimal, Upward, LinesStand}
+use Rattle.report.specs.Theorems.{value_on, Decimal, SignedDecimal, Upward, LinesStand}
 
 -- ---- numbers
 
@@ -31,6 +33,14 @@ is_decimal n lt = record {
 only_decimal : (n : ℕ) (text : List ℕ) → n < 2 ^ 64 → Decimal n text → text ≡ decimal n
 only_decimal n text lt d =
     sym (decimal-digits_value own text d.digits d.some d.plain (omega (arith, d.value))) ∙ ap decimal d.value
+
+is_signed : (z : ℤ) → unsigned_abs z < 2 ^ 64 → SignedDecimal z (signed_decimal z)
+is_signed (pos n) lt = is_decimal n lt
+is_signed (negsuc n) lt = (decimal (suc n), is_decimal (suc n) lt, refl)
+
+only_signed : (z : ℤ) (text : List ℕ) → unsigned_abs z < 2 ^ 64 → SignedDecimal z text → text ≡ signed_decimal z
+only_signed (pos n) text lt d = only_decimal n text lt d
+only_signed (negsuc n) text lt d = d.2 ∙ ap (λ ds. 45 ∷ ds) (only_decimal (suc n) d.0 lt d.1)
 
 -- ---- marks
 
@@ -64,4 +74,4 @@ upward z = record {
 }
 
 pub lines_stand : LinesStand
-lines_stand = record { decimals = is_decimal; one_decimal = only_decimal; upward = upward }
+lines_stand = record { decimals = is_decimal; one_decimal = only_decimal; signed = is_signed; one_signed = only_signed; upward = upward }

@@ -1,5 +1,6 @@
 -- What else is said of the texts in the lines.
-use Rattle.std.specs.Prelude.{◌≡◌, ℕ, ◌+◌, ◌-◌, ◌*◌, ◌^◌, ◌<◌, true, List, [], ◌∷◌, length, decimal, slice_index, slice_index_or}
+use Rattle.std.specs.Prelude.{◌≡◌, ℕ, suc, ◌+◌, ◌-◌, ◌*◌, ◌^◌, ◌<◌, true, List, [], ◌∷◌, length, ℤ, pos, negsuc, decimal, unsigned_abs, slice_index, slice_index_or}
+use Rattle.std.specs.Fmt.{signed_decimal}
 use Rattle.std.specs.Str.{all_ascii_digits}
 use Rattle.sheets.specs.Sheets.{width, has}
 use Rattle.report.specs.Lines.{marks}
@@ -17,6 +18,12 @@ pub record Decimal (n : ℕ) (text : List ℕ) : Type 0 where
   pub value : value_on 0 text ≡ n
   pub plain : slice_index_or text 0 0 ≡ 48 → length text ≡ 1
 
+-- the text is the whole number in decimal: as above from 0 upward, and below 0 a minus, byte 45, and then the number without
+-- its sign (`negsuc n` is -(n + 1))
+abbrev pub SignedDecimal : ℤ → List ℕ → Type 0
+SignedDecimal (pos n) text = Decimal n text
+SignedDecimal (negsuc n) text = (digits : List ℕ) × Decimal (suc n) digits × (text ≡ 45 ∷ digits)
+
 -- the list has the marks of the sheet, each once, upward
 pub record Upward (z : ℕ) (ms : List ℕ) : Type 0 where
   pub sound : (k : ℕ) → k < length ms → has z (slice_index ms k) ≡ true
@@ -28,5 +35,8 @@ pub record LinesStand : Type 0 where
   -- what is written of a number of at most 64 bits is the number in decimal, and no other text is
   pub decimals : (n : ℕ) → n < 2 ^ 64 → Decimal n (decimal n)
   pub one_decimal : (n : ℕ) (text : List ℕ) → n < 2 ^ 64 → Decimal n text → text ≡ decimal n
+  -- the same of a whole number that without its sign has at most 64 bits
+  pub signed : (z : ℤ) → unsigned_abs z < 2 ^ 64 → SignedDecimal z (signed_decimal z)
+  pub one_signed : (z : ℤ) (text : List ℕ) → unsigned_abs z < 2 ^ 64 → SignedDecimal z text → text ≡ signed_decimal z
   -- the marks of a sheet are listed upward
   pub upward : (z : ℕ) → Upward z (marks z)

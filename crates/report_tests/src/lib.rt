@@ -1,4 +1,5 @@
-// Tests of the report: its lines, its length, and what it does with the buffer.
+// Tests of the report: its lines, its length, and what it does with the buffer; of verdicts, judges and scales from the bytes
+// of a file; and of what errors and costs print.
 #![tactic(auto)]
 
 #[cfg(test)]
@@ -8,6 +9,10 @@ mod buffers;
 #[cfg(test)]
 mod build;
 #[cfg(test)]
+mod from_bytes;
+#[cfg(test)]
 mod lines;
 #[cfg(test)]
 mod verdicts;
+#[cfg(test)]
+mod words;

@@ -8,3 +8,4 @@ pub mod Drafts
 pub mod Fits
 pub mod Accepted
 pub mod Complete
+pub mod Given

@@ -15,7 +15,7 @@ mod wishes;
 
 pub use constraints::{Constraint, Element};
 pub use files::RuleFile;
-pub use inputs::input_limit;
+pub use inputs::{input_limit, read_input};
 pub use reader::{read, read_or_head_alone};
 pub use records::{Act, Clause, Kind, Rule};
 pub use refusals::{BadFile, ReadError, Refusal};

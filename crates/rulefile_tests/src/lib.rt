@@ -8,6 +8,8 @@ mod build;
 #[cfg(test)]
 mod framing;
 #[cfg(test)]
+mod inputs;
+#[cfg(test)]
 mod limits;
 #[cfg(test)]
 mod ranges;

@@ -1,9 +1,12 @@
 // The distance from the house sheet, as a scale.
-ghost use Rattle.std.specs.Prelude.{◌≡◌};
+ghost use Rattle.std.specs.Prelude.{◌≡◌, IfOk};
+ghost use Rattle.rulefile.specs.Format.{decode, file_or_head_alone};
 ghost use Rattle.scales.specs.Distances.{distance_of};
 ghost use Rattle.scales.specs.Counts.{distance_laws};
 
+use rulefile::read_or_head_alone;
 use sheets::{PartSheet, Scale, Sheet};
+use std::alloc::{AllocError, Global};
 
 // Costs a sheet by the number of marks in which it differs from the house sheet.
 #[derive(Clone, Copy)]
@@ -18,6 +21,15 @@ impl Distance {
         ensures { result.house ≡ house }
     {
         Distance { house }
+    }
+
+    // The distance from the house sheet of the file that the bytes stand for; refused bytes stand for a head alone, whose
+    // house sheet is empty.
+    pub fn from_bytes(heap: Global, bytes: &[u8]) -> Result<Distance, AllocError>
+        ensures { IfOk result (λ d. d.house ≡ (file_or_head_alone (decode bytes.now)).house) }
+    {
+        let file = read_or_head_alone(heap, bytes)?;
+        Ok(Distance::new(file.house))
     }
 
     // How many marks one of the sheet and the house sheet has and the other lacks.

@@ -1,13 +1,15 @@
 // The wishes of a file, as a scale.
-ghost use Rattle.std.specs.Prelude.{◌≡◌, ◌↔◌, ℕ, IsTrue};
+ghost use Rattle.std.specs.Prelude.{◌≡◌, ◌↔◌, ℕ, IsTrue, IfOk};
+ghost use Rattle.rulefile.specs.Format.{decode, file_or_head_alone};
 ghost use Rattle.scales.specs.Levels.{wishes_of, levels_of, cheaper};
 ghost use Rattle.scales.specs.Wishes.{wish_cost, sum_at, cost_at, Dominates};
 ghost use Rattle.scales.specs.Sums.{levels_laws};
 
 use crate::cost::LevelCost;
 use crate::wishes::level_floors;
-use rulefile::RuleFile;
+use rulefile::{RuleFile, read_or_head_alone};
 use sheets::{PartSheet, Scale, Sheet};
+use std::alloc::{AllocError, Global};
 use std::rc::Rc;
 
 // Costs a sheet by the wishes of a file, which it shares with judges and other scales.
@@ -23,6 +25,14 @@ impl Levels {
         ensures { result.file ≡ file }
     {
         Levels { file }
+    }
+
+    // The wishes of the file that the bytes stand for; refused bytes stand for a head alone, which has none.
+    pub fn from_bytes(heap: Global, bytes: &[u8]) -> Result<Levels, AllocError>
+        ensures { IfOk result (λ l. wishes_of l ≡ (file_or_head_alone (decode bytes.now)).wishes) }
+    {
+        let file = read_or_head_alone(heap, bytes)?;
+        Ok(Levels::new(Rc::new(heap, file)?))
     }
 
     // At each level, the sum of the weights of the wishes that hold in the sheet.

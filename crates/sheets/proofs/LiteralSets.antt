@@ -13,7 +13,7 @@ use Rattle.sheets.specs.declared.literals.Literal.{Literal}
 use Rattle.sheets.specs.declared.literal_sets.LiteralSet.{LiteralSet}
 use Rattle.sheets.specs.Sheets.{width, has, others}
 use Rattle.sheets.specs.Literals.{held}
-use Rattle.sheets.specs.LiteralSets.{Stands, MarksInWidth, has_literal, is_plain, is_not, distinct, with_one, with_literal}
+use Rattle.sheets.specs.LiteralSets.{Stands, MarksInWidth, in_width, has_literal, is_plain, is_not, distinct, with_one, with_literal}
 use Rattle.sheets.specs.Bits.{has_none, has_and, has_or, has_one, same_marks}
 use Rattle.sheets.specs.Parts.{others_word, has_others}
 use Rattle.sheets.specs.Counting.{marks_where, marks_none, marks_more, ones_where}
@@ -73,18 +73,53 @@ stands_more s l done t h = record {
     nots true i = has_with s.nots l.mark i lt
     nots false i = sym (or_false (has s.nots i))
 
-stands_behind : (ls : List Literal) (s : LiteralSet) (done : List Literal) → MarksInWidth ls → Stands s.plain s.nots done
-    → Stands (fold with_literal s ls).plain (fold with_literal s ls).nots (done ++ ls)
-stands_behind [] s done m h = subst (Stands s.plain s.nots) (sym (append-nil done)) h
-stands_behind (l ∷ ls) s done m h =
-    let b = and_parts (nat_lt l.mark width) (list_all (λ k. nat_lt k.mark width) ls) m in
-    let next = with_literal s l in
-    subst (Stands (fold with_literal next ls).plain (fold with_literal next ls).nots) (append_assoc done (l ∷ []) ls)
-    (stands_behind ls next (done ++ l ∷ []) b.1 (stands_more s l done b.0 h))
+-- a literal of a mark that there is not changes nothing
+with_beyond : (s : LiteralSet) (l : Literal) → nat_lt l.mark width ≡ false → with_literal s l ≡ s
+unfolding with_literal
+with_beyond s l f = ap₂ (λ p n. record { plain = p; nots = n }) (plain l.negated) (nots l.negated)
+  where
+    same : (w : ℕ) → with_one w l.mark ≡ w
+    same w = ap (λ b. cond b (bit_or w (2 ^ l.mark)) w) f
 
-pub stands_of : (s : LiteralSet) (ls : List Literal) → Stands s.plain s.nots [] → MarksInWidth ls
-    → Stands (fold with_literal s ls).plain (fold with_literal s ls).nots ls
-stands_of s ls h m = stands_behind ls s [] m h
+    plain : (b : Bool) → cond b s.plain (with_one s.plain l.mark) ≡ s.plain
+    plain true = refl
+    plain false = same s.plain
+
+    nots : (b : Bool) → cond b (with_one s.nots l.mark) s.nots ≡ s.nots
+    nots true = same s.nots
+    nots false = refl
+
+stands_behind : (ls : List Literal) (s : LiteralSet) (done : List Literal) → Stands s.plain s.nots done
+    → Stands (fold with_literal s ls).plain (fold with_literal s ls).nots (done ++ in_width ls)
+stands_behind [] s done h = subst (Stands s.plain s.nots) (sym (append-nil done)) h
+stands_behind (l ∷ ls) s done h = ⊎_elim
+    (λ t. there t (stands_behind ls next (done ++ l ∷ []) (stands_more s l done t h)))
+    (λ f. beyond f (stands_behind ls next done (subst (λ (r : LiteralSet). Stands r.plain r.nots done) (sym (with_beyond s l f)) h)))
+    (cases_Bool (nat_lt l.mark width))
+  where
+    next : LiteralSet
+    next = with_literal s l
+
+    Behind : List Literal → Type 0
+    Behind = Stands (fold with_literal next ls).plain (fold with_literal next ls).nots
+
+    there : nat_lt l.mark width ≡ true → Behind ((done ++ l ∷ []) ++ in_width ls) → Behind (done ++ in_width (l ∷ ls))
+    there t h =
+        subst (λ b. Behind (done ++ cond b (l ∷ in_width ls) (in_width ls))) (sym t)
+        (subst Behind (append_assoc done (l ∷ []) (in_width ls)) h)
+
+    beyond : nat_lt l.mark width ≡ false → Behind (done ++ in_width ls) → Behind (done ++ in_width (l ∷ ls))
+    beyond f h = subst (λ b. Behind (done ++ cond b (l ∷ in_width ls) (in_width ls))) (sym f) h
+
+pub stands_of : (s : LiteralSet) (ls : List Literal) → Stands s.plain s.nots [] → Stands (fold with_literal s ls).plain (fold with_literal s ls).nots (in_width ls)
+stands_of s ls h = stands_behind ls s [] h
+
+-- where all name marks that there are, these are the whole list
+pub all_in_width : (ls : List Literal) → MarksInWidth ls → in_width ls ≡ ls
+all_in_width [] m = refl
+all_in_width (l ∷ ls) m =
+    let b = and_parts (nat_lt l.mark width) (list_all (λ k. nat_lt k.mark width) ls) m in
+    ap (λ t. cond t (l ∷ in_width ls) (in_width ls)) b.0 ∙ ap (λ ks. l ∷ ks) (all_in_width ls b.1)
 
 -- ---- a literal that stands twice
 

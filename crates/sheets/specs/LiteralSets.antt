@@ -1,6 +1,6 @@
 -- Two words that stand for a list of literals.
 use Rattle.std.specs.Prelude.{◌≡◌, ◌^◌, Bool, true, cond, not, ◌&&◌, List, [], ◌∷◌, ◌==◌, bit_or, nat_lt}
-use Rattle.std.specs.List.{list_all, list_any}
+use Rattle.std.specs.List.{list_all, list_any, filter}
 use Rattle.sheets.specs.declared.literals.Literal.{Literal}
 use Rattle.sheets.specs.declared.literal_sets.LiteralSet.{LiteralSet}
 use Rattle.sheets.specs.Sheets.{Mark, Sheet, width, has}
@@ -8,6 +8,10 @@ use Rattle.sheets.specs.Sheets.{Mark, Sheet, width, has}
 -- each literal names a mark that there is
 abbrev pub MarksInWidth : List Literal → Type 0
 MarksInWidth ls = list_all (λ l. nat_lt l.mark width) ls ≡ true
+
+-- the literals of a list that name marks that there are
+abbrev pub in_width : List Literal → List Literal
+in_width ls = filter (λ l. nat_lt l.mark width) ls
 
 -- the literal is mark i
 abbrev pub is_plain : Mark → Literal → Bool

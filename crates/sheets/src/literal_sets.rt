@@ -4,7 +4,7 @@ ghost use Rattle.std.specs.List.{list_any, list_all, count_by};
 ghost use Rattle.sheets.specs.Sheets.{width};
 ghost use Rattle.sheets.specs.declared.literals.Literal.{Literal};
 ghost use Rattle.sheets.specs.Literals.{held};
-ghost use Rattle.sheets.specs.LiteralSets.{Stands, MarksInWidth, has_literal, with_literal, distinct};
+ghost use Rattle.sheets.specs.LiteralSets.{Stands, in_width, has_literal, with_literal, distinct};
 
 use crate::literals::{Interpretation, Literal};
 use crate::marks::{Sheet, has_mark, with_mark};
@@ -26,9 +26,9 @@ impl LiteralSet {
         LiteralSet { plain: 0, nots: 0 }
     }
 
-    // The literals of a list that name marks there are.
+    // The literals of a list that name marks there are; those of a mark from `WIDTH` upward change nothing.
     pub fn of(literals: &[Literal]) -> LiteralSet
-        ensures { MarksInWidth literals.now → Stands result.plain result.nots literals.now }
+        ensures { Stands result.plain result.nots (in_width literals.now) }
     {
         literals
             .iter()

@@ -1,6 +1,7 @@
-use Rattle.std.proofs.Common.{sym, subst, ◌∙◌, vec_items, arith, w16, SFits, rules}
+use Rattle.std.proofs.Common.{sym, ap, subst, ◌∙◌, vec_items, arith, w16, SFits, rules}
 use Rattle.std.proofs.lemmas.Int.{to_z-of_z}
-use Rattle.sheets.specs.LiteralSets.{Stands, MarksInWidth}
+use Rattle.sheets.specs.LiteralSets.{Stands, in_width}
+use Rattle.sheets.proofs.LiteralSets.{all_in_width}
 use Rattle.rulefile.proofs.Marks.{literals_in_width}
 use Rattle.rulefile.proofs.Sound.{in_range, counted_in_range}
 use Rattle.rulefile.proofs.body.WishField.read.Goals as goal
@@ -18,5 +19,5 @@ invariant_of-result c =
       weighed = simp to_z-of_z e;
       some = omega (arith, c.in_ok-literals.literals.ok.0);
       few = omega (arith, c.in_ok-literals.literals.ok.0);
-      same = subst (Stands c.of-set.result.plain c.of-set.result.nots) c.deref.ensures.value (c.of-set.ensures (subst MarksInWidth (sym c.deref.ensures.value) marks));
+      same = subst (Stands c.of-set.result.plain c.of-set.result.nots) (ap in_width c.deref.ensures.value ∙ all_in_width _ marks) c.of-set.ensures;
     }
