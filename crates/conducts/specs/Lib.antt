@@ -1,4 +1,3 @@
 pub mod Tables
 pub mod Numbers
-pub mod Numbered
-pub mod Listed
+pub mod laws

@@ -3,7 +3,7 @@ ghost use Rattle.std.specs.Prelude.{◌≡◌, ◌≤◌, true, MatchOption};
 ghost use Rattle.std.specs.List.{list_all, list_any};
 ghost use Rattle.sheets.specs.Sheets.{width};
 ghost use Rattle.conducts.specs.Tables.{is_below, lies_within, table_of};
-ghost use Rattle.conducts.specs.Listed.{table_laws};
+ghost use Rattle.conducts.specs.laws.Listed.{table_laws};
 
 use anyhow::Context;
 use sheets::{Judge, PartSheet, Sheet, WIDTH, within_count};

@@ -4,8 +4,8 @@ use Rattle.std.proofs.lemmas.Bool.{both_ways, cases_lt}
 use Rattle.sheets.specs.declared.literals.Literal.{Literal}
 use Rattle.sheets.specs.Sheets.{width, has, others, Part, Within}
 use Rattle.sheets.specs.Literals.{held, Holds}
-use Rattle.sheets.specs.Bits.{has_high}
-use Rattle.sheets.specs.Parts.{others_word, has_others, apart_turned, subset_others, within_itself}
+use Rattle.sheets.specs.laws.Bits.{has_high}
+use Rattle.sheets.specs.laws.Parts.{others_word, has_others, apart_turned, subset_others, within_itself}
 use Rattle.sheets.proofs.Held.{sure_holds, holds_possible}
 use Rattle.judges.specs.Theorems.{SumsStand}
 

@@ -5,8 +5,4 @@ pub mod Verdicts
 pub mod Books
 pub mod Clauses
 pub mod Theorems
-pub mod BookLaws
-pub mod Reached
-pub mod Grounds
-pub mod Breaks
-pub mod ListLaws
+pub mod laws

@@ -6,7 +6,7 @@ ghost use Rattle.rulefile.specs.Format.{decode, file_or_head_alone};
 ghost use Rattle.rulefile.specs.Model.{rule_of};
 ghost use Rattle.judges.specs.Books.{lawful, book_of};
 ghost use Rattle.rulefile.proofs.Fits.{fit_parts};
-ghost use Rattle.judges.specs.BookLaws.{book_laws};
+ghost use Rattle.judges.specs.laws.BookLaws.{book_laws};
 
 use crate::parts::has_dead_rule;
 use crate::verdicts::{Verdict, rules_verdict};

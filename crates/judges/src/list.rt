@@ -8,7 +8,7 @@ ghost use Rattle.rulefile.specs.Format.{decode, file_or_head_alone};
 ghost use Rattle.rulefile.specs.Model.{clause_of};
 ghost use Rattle.judges.specs.Clauses.{list_of};
 ghost use Rattle.rulefile.proofs.Fits.{fit_parts};
-ghost use Rattle.judges.specs.ListLaws.{list_laws};
+ghost use Rattle.judges.specs.laws.ListLaws.{list_laws};
 
 use rulefile::{Clause, RuleFile, read_or_head_alone};
 use sheets::{Interpretation, Judge, PartSheet, within_count};

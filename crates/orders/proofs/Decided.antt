@@ -4,8 +4,8 @@ use lib.Bits.{and_lt, or_lt}
 use lib.Pow.{ones_lt}
 use Rattle.std.proofs.lemmas.Bool.{both_ways, cases_lt, cases_Bool, and_parts, and_from, and_left, or_cases, or_left, or_right}
 use Rattle.sheets.specs.Sheets.{width, has, others, MarksBelow, Part, Within, Full, full}
-use Rattle.sheets.specs.Bits.{has_high, has_and, has_or, has_first, below_marks, marks_below, same_marks}
-use Rattle.sheets.specs.Parts.{others_word, has_others, others_apart, deciding_apart, decides_full}
+use Rattle.sheets.specs.laws.Bits.{has_high, has_and, has_or, has_first, below_marks, marks_below, same_marks}
+use Rattle.sheets.specs.laws.Parts.{others_word, has_others, others_apart, deciding_apart, decides_full}
 use Rattle.orders.specs.Search.{Search}
 use Rattle.orders.specs.Places.{DecidesFirst, LiesBefore}
 use Rattle.orders.proofs.Dismissals.{Well, Agrees, Precedes}

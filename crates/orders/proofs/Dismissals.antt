@@ -3,7 +3,7 @@ use Rattle.std.proofs.Common.{◌≡◌, ℕ, zero, suc, ◌+◌, ◌-◌, ◌^�
 use lib.Bits.{bit_or}
 use Rattle.std.proofs.lemmas.Bool.{both_ways, cases_lt, cases_Bool, cond_both, cond-true, cond-false}
 use Rattle.sheets.specs.Sheets.{width, has}
-use Rattle.sheets.specs.Bits.{has_plus_at, lacks_top}
+use Rattle.sheets.specs.laws.Bits.{has_plus_at, lacks_top}
 use Rattle.orders.specs.Search.{Search}
 use Rattle.orders.specs.Searches.{dismissed}
 use Rattle.orders.proofs.Powers.{has_plus, has_minus, minus_below, plus_below, or_plus}

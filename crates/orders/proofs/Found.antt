@@ -4,7 +4,7 @@ use Rattle.std.proofs.lemmas.Bool.{both_ways, cases_lt, cases_Bool, or_cases, or
 use Rattle.sheets.specs.Sheets.{width, has, MarksBelow, Part, Within, Full, Earlier}
 use Rattle.sheets.specs.Judging.{Judging, JudgeLaws}
 use Rattle.sheets.specs.Scaling.{Scaling, ScaleLaws}
-use Rattle.sheets.specs.Bits.{has_high, marks_below, same_marks}
+use Rattle.sheets.specs.laws.Bits.{has_high, marks_below, same_marks}
 use Rattle.total_order.specs.laws.Orders.{at_most_trans, less_at_most}
 use Rattle.orders.specs.Search.{Search}
 use Rattle.orders.specs.Searches.{start, present_at, absent_at, dismissed, floor_not_below, dead_at, floor_not_below_at, dismisses, stepped, Steps, none, more, Ended, priced}

@@ -24,7 +24,7 @@ use Rattle.orders.proofs.Remaining.{steps_bound}
 use Rattle.orders.proofs.Found.{Sound, sound_reached, best_finished}
 use Rattle.orders.proofs.Falls.{falls}
 use Rattle.orders.proofs.Shown.{held_allowed, held_none_cheaper}
-use Rattle.orders.specs.Under.{under_laws, more_acts_best}
+use Rattle.orders.specs.laws.Under.{under_laws, more_acts_best}
 use Rattle.orders.proofs.Runs.{Runs, begun, runs_split, acts_run, calls_had_run, Gone, gone_begun, gone_run}
 
 same_shown : {C : Type 0} (p q : Progress C) → Shown p ≡ Shown q → p ≡ q

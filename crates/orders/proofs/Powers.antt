@@ -5,7 +5,7 @@ use lib.Bits.{bit_and, bit_or, and_le_r, or_disjoint}
 use Rattle.std.proofs.lemmas.Nat.{pow_pos}
 use Rattle.std.proofs.lemmas.Bool.{both_ways, cases_lt, and_left, and_right, ne_eqb}
 use Rattle.sheets.specs.Sheets.{has}
-use Rattle.sheets.specs.Bits.{has_zero, has_suc, has_none, has_high, has_one, has_and, same_marks}
+use Rattle.sheets.specs.laws.Bits.{has_zero, has_suc, has_none, has_high, has_one, has_and, same_marks}
 
 -- the marks below k stay
 pub has_plus : (k z i : ℕ) → i < k → has (z + 2 ^ k) i ≡ has z i

@@ -6,7 +6,7 @@ use Rattle.std.proofs.lemmas.Bool.{cases_Bool, cond_both, cond-true, cond-false}
 use Rattle.sheets.specs.Sheets.{width, has}
 use Rattle.sheets.specs.Judging.{Judging}
 use Rattle.sheets.specs.Scaling.{Scaling}
-use Rattle.sheets.specs.Bits.{has_plus_at}
+use Rattle.sheets.specs.laws.Bits.{has_plus_at}
 use Rattle.orders.specs.Search.{Search}
 use Rattle.orders.specs.Searches.{start, present_at, dismissed, stepped, Steps, none, more}
 use Rattle.orders.proofs.Powers.{has_plus, has_minus}

@@ -7,12 +7,12 @@ use Rattle.std.proofs.lemmas.Bool.{cases_Bool}
 use Rattle.sheets.specs.Sheets.{width, others}
 use Rattle.sheets.specs.Judging.{Judging, JudgeLaws}
 use Rattle.sheets.specs.Scaling.{Scaling, ScaleLaws}
-use Rattle.sheets.specs.Bits.{marks_below}
-use Rattle.sheets.specs.Parts.{sheet_part, sheet_full}
+use Rattle.sheets.specs.laws.Bits.{marks_below}
+use Rattle.sheets.specs.laws.Parts.{sheet_part, sheet_full}
 use Rattle.orders.specs.declared.calls.Progress.{Progress}
 use Rattle.orders.specs.declared.layer.Acts.{Acts}
 use Rattle.orders.specs.Models.{acts_of, held_to}
-use Rattle.orders.specs.Under.{under_laws}
+use Rattle.orders.specs.laws.Under.{under_laws}
 use Rattle.orders.specs.Search.{Search}
 use Rattle.orders.specs.Searches.{start, present_at, absent_at, Steps, Ended, priced}
 use Rattle.orders.specs.Places.{DecidesFirst, LiesBefore, Before}

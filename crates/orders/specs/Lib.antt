@@ -11,4 +11,4 @@ pub mod Stages
 pub mod Logs
 pub mod Turns
 pub mod Theorems
-pub mod Under
+pub mod laws

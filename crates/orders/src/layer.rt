@@ -1,7 +1,7 @@
 // The acts of an order, as a judge over the one below.
 ghost use Rattle.std.specs.Prelude.{◌≡◌, []};
 ghost use Rattle.orders.specs.Models.{acts_of, held_to, Added, Undone};
-ghost use Rattle.orders.specs.Under.{under_laws};
+ghost use Rattle.orders.specs.laws.Under.{under_laws};
 
 use crate::acts::{Act, Refusal};
 use crate::docket::Docket;

@@ -21,7 +21,7 @@ use Rattle.rulefile.specs.Numbers as file-number
 use Rattle.rulefile.specs.Words.{bad_file_words}
 use Rattle.rulefile.proofs.Fits.{fit_parts}
 use Rattle.scales.specs.Wishes.{wish_cost, sum_at, top, down_from}
-use Rattle.sheets.specs.Counting.{marks_most}
+use Rattle.sheets.specs.laws.Counting.{marks_most}
 use Rattle.scales.specs.Distances.{differ_at, distance_of}
 use Rattle.orders.specs.declared.acts.Act.{Act as Standing}
 use Rattle.orders.specs.declared.acts.Refusal.{Refusal}

@@ -4,7 +4,7 @@ use Rattle.std.proofs.lemmas.Bool.{both_ways, cases_Bool, cases_lt}
 use Rattle.sheets.specs.Sheets.{has, MarksBelow, Earlier}
 use Rattle.sheets.specs.Judging.{Judging}
 use Rattle.sheets.specs.Scaling.{Scaling}
-use Rattle.sheets.specs.Bits.{marks_below, same_marks}
+use Rattle.sheets.specs.laws.Bits.{marks_below, same_marks}
 use Rattle.rulefile.specs.declared.refusals.BadFile.{BadFile}
 use Rattle.rulefile.specs.Model.{FileModel}
 use Rattle.orders.specs.Best.{Best}

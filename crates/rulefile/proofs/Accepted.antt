@@ -4,7 +4,7 @@ use Rattle.std.specs.List.{flat_map, AllByRecursion}
 use Rattle.std.proofs.ByRecursion.{All-push}
 use Rattle.std.proofs.lemmas.List.{length_push, map_push}
 use Rattle.std.proofs.lemmas.Bool.{ltb-true, ltb-false, eqb-true, eq-eqb}
-use Rattle.sheets.specs.Bits.{below_marks}
+use Rattle.sheets.specs.laws.Bits.{below_marks}
 use Rattle.rulefile.specs.declared.refusals.Refusal.{Refusal}
 use Rattle.rulefile.specs.declared.refusals.Refusal.TheVariants.{UnknownKind, TooManyOfKind, FileTooLong}
 use Rattle.rulefile.specs.declared.refusals.BadFile.{BadFile}

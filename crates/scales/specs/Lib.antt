@@ -1,7 +1,5 @@
 pub mod Wishes
 pub mod Levels
 pub mod Distances
-pub mod Counts
-pub mod Sums
-pub mod Orders
 pub mod Words
+pub mod laws

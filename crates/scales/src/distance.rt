@@ -2,7 +2,7 @@
 ghost use Rattle.std.specs.Prelude.{◌≡◌, IfOk};
 ghost use Rattle.rulefile.specs.Format.{decode, file_or_head_alone};
 ghost use Rattle.scales.specs.Distances.{distance_of};
-ghost use Rattle.scales.specs.Counts.{distance_laws};
+ghost use Rattle.scales.specs.laws.Counts.{distance_laws};
 
 use rulefile::read_or_head_alone;
 use sheets::{PartSheet, Scale, Sheet};

@@ -3,7 +3,7 @@ ghost use Rattle.std.specs.Prelude.{◌≡◌, ◌↔◌, ℕ, IsTrue, IfOk};
 ghost use Rattle.rulefile.specs.Format.{decode, file_or_head_alone};
 ghost use Rattle.scales.specs.Levels.{wishes_of, levels_of, cheaper};
 ghost use Rattle.scales.specs.Wishes.{wish_cost, sum_at, cost_at, Dominates};
-ghost use Rattle.scales.specs.Sums.{levels_laws};
+ghost use Rattle.scales.specs.laws.Sums.{levels_laws};
 
 use crate::cost::LevelCost;
 use crate::wishes::level_floors;

@@ -4,7 +4,7 @@ use Rattle.std.proofs.lemmas.Bool.{both_ways, cases_Bool, not-true}
 use Rattle.sheets.specs.declared.literals.Literal.{Literal}
 use Rattle.sheets.specs.Sheets.{has, others, Subset, Part, Within}
 use Rattle.sheets.specs.Literals.{held, Holds}
-use Rattle.sheets.specs.Parts.{subset_others}
+use Rattle.sheets.specs.laws.Parts.{subset_others}
 
 -- with more marks there, and fewer among which "not" looks, no less is held
 pub held_wider : (x x' y y' : ℕ) → Subset x x' → Subset y' y → (l : Literal) → held x y l ≡ true → held x' y' l ≡ true

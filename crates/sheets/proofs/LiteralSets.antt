@@ -14,9 +14,10 @@ use Rattle.sheets.specs.declared.literal_sets.LiteralSet.{LiteralSet}
 use Rattle.sheets.specs.Sheets.{width, has, others}
 use Rattle.sheets.specs.Literals.{held}
 use Rattle.sheets.specs.LiteralSets.{Stands, MarksInWidth, in_width, has_literal, is_plain, is_not, distinct, with_one, with_literal}
-use Rattle.sheets.specs.Bits.{has_none, has_and, has_or, has_one, same_marks}
-use Rattle.sheets.specs.Parts.{others_word, has_others}
-use Rattle.sheets.specs.Counting.{marks_where, marks_none, marks_more, ones_where}
+use Rattle.sheets.specs.laws.Bits.{has_none, has_and, has_or, has_one, same_marks}
+use Rattle.sheets.specs.laws.Parts.{others_word, has_others}
+use Rattle.sheets.specs.Counting.{marks_where}
+use Rattle.sheets.specs.laws.Counting.{marks_none, marks_more, ones_where}
 
 -- ---- sets that are built
 

@@ -3,7 +3,7 @@ use Rattle.std.proofs.Common.{◌≡◌, ℕ, zero, suc, ◌/◌, ◌%◌, ◌^�
 use lib.Bits.{bit_or}
 use Rattle.std.proofs.lemmas.Bool.{cases_Bool, eqb-true, eqb-false, eq-eqb, or_cases, or_left, or_right}
 use Rattle.sheets.specs.Sheets.{has, Subset}
-use Rattle.sheets.specs.Bits.{has_zero, has_suc, has_or, has_one}
+use Rattle.sheets.specs.laws.Bits.{has_zero, has_suc, has_or, has_one}
 
 -- ---- a word with fewer marks is no greater
 

@@ -1,6 +1,6 @@
 // A judge that is made of two.
 ghost use Rattle.sheets.specs.Judging.{both};
-ghost use Rattle.sheets.specs.Judges.{both_laws};
+ghost use Rattle.sheets.specs.laws.Judges.{both_laws};
 
 use crate::judge::Judge;
 use crate::part::PartSheet;

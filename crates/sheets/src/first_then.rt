@@ -1,6 +1,6 @@
 // A scale that is made of two.
 ghost use Rattle.sheets.specs.Scaling.{first_then};
-ghost use Rattle.sheets.specs.Scales.{first_then_laws};
+ghost use Rattle.sheets.specs.laws.Scales.{first_then_laws};
 
 use crate::part::PartSheet;
 use crate::scale::Scale;

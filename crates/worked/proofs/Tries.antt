@@ -4,13 +4,13 @@ use Rattle.std.proofs.lemmas.Bool.{both_ways, ne_eqb}
 use Rattle.std.proofs.lemmas.Int.{ints}
 use Rattle.std.specs.List.{list_all}
 use Rattle.sheets.specs.Sheets.{has}
-use Rattle.sheets.specs.Bits.{has_none, marks_below}
+use Rattle.sheets.specs.laws.Bits.{has_none, marks_below}
 use Rattle.rulefile.specs.Model.{RuleModel}
 use Rattle.judges.specs.Programs.{Satisfies, rule_holds, reduct, AnswerSet}
 use Rattle.judges.specs.Books.{obeys, lawful}
 use Rattle.judges.specs.Verdicts.{FirstBroken, FirstUngrounded}
-use Rattle.judges.specs.Grounds.{lawful_yes, lawful_from, obeyed}
-use Rattle.judges.specs.BookLaws.{inside}
+use Rattle.judges.specs.laws.Grounds.{lawful_yes, lawful_from, obeyed}
+use Rattle.judges.specs.laws.BookLaws.{inside}
 use Rattle.scales.specs.Wishes.{wish_cost, sum_at}
 use Rattle.orders.specs.Searches.{present_at, absent_at, none, more}
 use Rattle.worked.specs.Cases.{at_most_one, each_other, if_missing, if_not_missing, budget, two_levels, CasesStand}

@@ -5,7 +5,7 @@ use Rattle.rulefile.specs.Model.{FileModel}
 use Rattle.judges.specs.declared.verdicts.Verdict.{Verdict}
 use Rattle.judges.specs.declared.verdicts.Refusal.TheVariants.{MarkRange}
 use Rattle.judges.specs.Verdicts.{Says, Judged}
-use Rattle.judges.specs.Grounds.{says_one}
+use Rattle.judges.specs.laws.Grounds.{says_one}
 use Rattle.judges.proofs.answers.sheet_verdict.Goals as goal
 
 refused : (f : FileModel) (z : ℕ) → (MarksBelow f.count z → ⊥) → Judged f z (Err MarkRange)

@@ -4,7 +4,7 @@ use Rattle.judges.specs.declared.verdicts.Verdict.{Verdict}
 use Rattle.judges.specs.declared.verdicts.Verdict.TheVariants.{Lawful, Broken, Ungrounded}
 use Rattle.judges.specs.Verdicts.{Says}
 use Rattle.judges.specs.Books.{lawful}
-use Rattle.judges.specs.Grounds.{lawful_from, not_if_broken, not_if_ungrounded}
+use Rattle.judges.specs.laws.Grounds.{lawful_from, not_if_broken, not_if_ungrounded}
 use Rattle.judges.proofs.book.is_lawful.Goals as goal
 
 -- another verdict is said only of sheets that are not lawful

@@ -3,7 +3,7 @@ use Rattle.std.proofs.lemmas.List.{length-map}
 use Rattle.rulefile.specs.Model.{constraint_of, rule_of}
 use Rattle.judges.specs.Programs.{satisfied, rule_holds}
 use Rattle.judges.proofs.Steps.{all_hit, all_miss, all_none}
-use Rattle.judges.specs.Breaks.{all_from, more_by_head, more_by_body, breaks_here}
+use Rattle.judges.specs.laws.Breaks.{all_from, more_by_head, more_by_body, breaks_here}
 use Rattle.judges.proofs.verdicts.first_broken.Goals as goal
 
 pub rules-preserved-then-not-is_satisfied : goal.rules-preserved-then-not-is_satisfied

@@ -2,7 +2,7 @@ use Rattle.std.proofs.Common.{◌≡◌, map, drop, vec_items}
 use Rattle.rulefile.specs.Model.{constraint_of, rule_of}
 use Rattle.std.specs.List.{list_all}
 use Rattle.judges.specs.Programs.{satisfied}
-use Rattle.judges.specs.Breaks.{HeldBelow}
+use Rattle.judges.specs.laws.Breaks.{HeldBelow}
 use Rattle.judges.proofs.verdicts.first_broken.Given as goal
 
 abbrev pub invariant-body : goal.invariant-body

@@ -2,7 +2,7 @@ use Rattle.std.proofs.Common.{◌≡◌, ℕ, ◌^◌, ◌<◌, ◌≤◌, Some,
 use Rattle.std.proofs.lemmas.Iterator.{first_from_Range}
 use Rattle.std.proofs.lemmas.Bool.{both_ways, cases_lt}
 use Rattle.sheets.specs.Sheets.{width, has, Subset}
-use Rattle.sheets.specs.Bits.{has_high}
+use Rattle.sheets.specs.laws.Bits.{has_high}
 use Rattle.judges.specs.Verdicts.{FirstMissing}
 use Rattle.judges.proofs.verdicts.first_missing.Goals as goal
 

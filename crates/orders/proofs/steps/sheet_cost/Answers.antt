@@ -1,6 +1,6 @@
 use Rattle.std.proofs.Common.{◌≡◌, ◌^◌, ◌<◌, ◌∙◌, ap₂, arith}
 use Rattle.sheets.specs.Sheets.{width, others}
-use Rattle.sheets.specs.Parts.{sheet_part, sheet_full}
+use Rattle.sheets.specs.laws.Parts.{sheet_part, sheet_full}
 use Rattle.orders.proofs.steps.sheet_cost.Goals as goal
 
 -- the floor of the part-sheet that stands for the sheet is its cost

@@ -1,7 +1,7 @@
 use Rattle.std.proofs.Common.{◌^◌, ◌<◌, ◌≤◌, sym, refl, ◌∙◌, arith}
 use Rattle.std.proofs.lemmas.Bool.{le-ltb}
 use Rattle.sheets.specs.Sheets.{width, has}
-use Rattle.sheets.specs.Bits.{has_high}
+use Rattle.sheets.specs.laws.Bits.{has_high}
 use Rattle.sheets.proofs.marks.has_mark.Goals as goal
 
 pub returns-then-mark-lt-WIDTH : goal.returns-then-mark-lt-WIDTH

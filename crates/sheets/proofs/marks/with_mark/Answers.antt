@@ -2,7 +2,7 @@ use Rattle.std.proofs.Common.{◌≡◌, ℕ, ◌^◌, ◌<◌, ◌||◌, eqb, a
 use lib.Bits.{bit_or}
 use Rattle.std.proofs.lemmas.Nat.{one_shl, or_comm}
 use Rattle.sheets.specs.Sheets.{width, has}
-use Rattle.sheets.specs.Bits.{has_or, has_one}
+use Rattle.sheets.specs.laws.Bits.{has_or, has_one}
 use Rattle.sheets.proofs.marks.with_mark.Goals as goal
 
 -- the mark's bit added to a word

@@ -2,7 +2,7 @@ use Rattle.std.proofs.Common.{◌^◌, ◌<◌, ◌≤◌, ltb, sym, ◌∙◌, 
 use Rattle.std.proofs.lemmas.Bool.{lt-ltb, le-leb}
 use Rattle.std.proofs.lemmas.Bool.Decides.{Decides-at}
 use Rattle.sheets.specs.Sheets.{width}
-use Rattle.sheets.specs.Bits.{decides_below, quotient_none}
+use Rattle.sheets.specs.laws.Bits.{decides_below, quotient_none}
 use Rattle.sheets.proofs.marks.within_count.Goals as goal
 
 pub returns-then-count-ge-WIDTH : goal.returns-then-count-ge-WIDTH

@@ -1,6 +1,6 @@
 use Rattle.std.proofs.Common.{map}
 use Rattle.rulefile.specs.Model.{rule_of}
-use Rattle.judges.specs.Reached.{underway_none, underway_more, underway_less, underway_closure}
+use Rattle.judges.specs.laws.Reached.{underway_none, underway_more, underway_less, underway_closure}
 use Rattle.judges.proofs.closures.Reduct.closure.Goals as goal
 
 pub loop-reached-init : goal.loop-reached-init

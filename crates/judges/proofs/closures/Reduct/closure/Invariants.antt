@@ -1,6 +1,6 @@
 use Rattle.std.proofs.Common.{◌-◌, map}
 use Rattle.rulefile.specs.Model.{rule_of}
-use Rattle.judges.specs.Reached.{Underway}
+use Rattle.judges.specs.laws.Reached.{Underway}
 use Rattle.judges.proofs.closures.Reduct.closure.Given as goal
 
 abbrev pub invariant-loop-reached : goal.invariant-loop-reached

@@ -1,7 +1,7 @@
 use Rattle.std.proofs.Common.{◌^◌, ◌<◌, sym, ◌∙◌, arith}
 use Rattle.std.proofs.lemmas.Bool.{cond-true, lt-ltb}
 use Rattle.sheets.specs.Sheets.{width}
-use Rattle.judges.specs.Reached.{picked_low}
+use Rattle.judges.specs.laws.Reached.{picked_low}
 use Rattle.judges.proofs.closures.Reduct.with_head.Goals as goal
 
 pub returns-then-is_picked : goal.returns-then-is_picked

@@ -2,8 +2,8 @@ use Rattle.std.proofs.Common.{◌^◌, ◌<◌, arith}
 use lib.Bits.{bit_xor, xor_lt}
 use Rattle.sheets.specs.Sheets.{width}
 use Rattle.scales.specs.Distances.{differ_at}
-use Rattle.sheets.specs.Counting.{ones_where}
-use Rattle.scales.specs.Counts.{has_xor}
+use Rattle.sheets.specs.laws.Counting.{ones_where}
+use Rattle.scales.specs.laws.Counts.{has_xor}
 use Rattle.scales.proofs.distance.Distance.cost.Goals as goal
 
 pub returns : goal.returns

@@ -2,10 +2,11 @@ use Rattle.std.proofs.Common.{◌≡◌, ℕ, ◌^◌, ◌<◌, ◌&&◌, ◌||�
 use lib.Bits.{bit_and, bit_or, bit_xor, and_lt, or_lt, xor_lt}
 use lib.Count.{ones}
 use Rattle.sheets.specs.Sheets.{width, has}
-use Rattle.sheets.specs.Bits.{has_and, has_or}
-use Rattle.sheets.specs.Counting.{marks_where, ones_where}
+use Rattle.sheets.specs.laws.Bits.{has_and, has_or}
+use Rattle.sheets.specs.Counting.{marks_where}
+use Rattle.sheets.specs.laws.Counting.{ones_where}
 use Rattle.scales.specs.Distances.{differ_at}
-use Rattle.scales.specs.Counts.{has_xor}
+use Rattle.scales.specs.laws.Counts.{has_xor}
 use Rattle.scales.proofs.distance.DistanceScale.floor.Goals as goal
 
 -- the ones of the word are the decided marks that differ

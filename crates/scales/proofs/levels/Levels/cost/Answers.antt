@@ -1,10 +1,10 @@
 use Rattle.std.proofs.Common.{◌≡◌, ◌^◌, ◌<◌, vec_items, rc_value, ap, ◌∙◌, ap₂, arith}
 use Rattle.sheets.specs.Sheets.{width, others}
-use Rattle.sheets.specs.Parts.{sheet_part, sheet_full}
+use Rattle.sheets.specs.laws.Parts.{sheet_part, sheet_full}
 use Rattle.scales.specs.declared.cost.LevelCost.{LevelCost}
 use Rattle.scales.specs.Wishes.{cost_at}
 use Rattle.scales.specs.Levels.{wishes_of, levels_of}
-use Rattle.scales.specs.Sums.{levels_laws, sums_at}
+use Rattle.scales.specs.laws.Sums.{levels_laws, sums_at}
 use Rattle.scales.proofs.levels.Levels.cost.Goals as goal
 
 pub returns : goal.returns

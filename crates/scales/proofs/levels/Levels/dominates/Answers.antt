@@ -2,7 +2,7 @@ use Rattle.std.proofs.Common.{vec_items, rc_value, ◌∙◌, ap₂}
 use Rattle.std.proofs.lemmas.Bool.Decides.{Decides-at}
 use Rattle.scales.specs.declared.cost.LevelCost.{LevelCost}
 use Rattle.scales.specs.Levels.{wishes_of, levels_of, cheaper}
-use Rattle.scales.specs.Sums.{below_dominates}
+use Rattle.scales.specs.laws.Sums.{below_dominates}
 use Rattle.scales.proofs.levels.Levels.dominates.Goals as goal
 
 pub returns : goal.returns

@@ -1,4 +1,4 @@
-use Rattle.scales.specs.Orders.{less_tested}
+use Rattle.scales.specs.laws.Orders.{less_tested}
 use Rattle.scales.proofs.levels.LevelsScale.below.Goals as goal
 
 pub returns : goal.returns

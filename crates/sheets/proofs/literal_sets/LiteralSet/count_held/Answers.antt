@@ -2,8 +2,8 @@ use Rattle.std.proofs.Common.{◌^◌, ◌<◌, arith}
 use Rattle.std.specs.Prelude.{bit_and}
 use Rattle.std.specs.Int.Bits.{and_lt}
 use Rattle.sheets.specs.Sheets.{width, others}
-use Rattle.sheets.specs.Parts.{others_word}
-use Rattle.sheets.specs.Counting.{ones_most}
+use Rattle.sheets.specs.laws.Parts.{others_word}
+use Rattle.sheets.specs.laws.Counting.{ones_most}
 use Rattle.sheets.proofs.LiteralSets.{count_held}
 use Rattle.sheets.proofs.literal_sets.LiteralSet.count_held.Goals as goal
 

@@ -1,6 +1,6 @@
 use Rattle.std.proofs.Common.{◌^◌, ◌<◌, refl, arith}
 use Rattle.sheets.specs.Sheets.{width}
-use Rattle.sheets.specs.Parts.{deciding_disjoint}
+use Rattle.sheets.specs.laws.Parts.{deciding_disjoint}
 use Rattle.sheets.proofs.part.PartSheet.deciding.Goals as goal
 
 pub returns-clause-absent : goal.returns-clause-absent

@@ -1,6 +1,6 @@
 use Rattle.std.proofs.Common.{◌^◌, ◌<◌, refl, arith}
 use Rattle.sheets.specs.Sheets.{width}
-use Rattle.sheets.specs.Parts.{decides_full}
+use Rattle.sheets.specs.laws.Parts.{decides_full}
 use Rattle.sheets.proofs.part.PartSheet.is_full.Goals as goal
 
 pub returns : goal.returns

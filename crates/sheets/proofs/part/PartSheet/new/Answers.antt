@@ -1,6 +1,6 @@
 use Rattle.std.proofs.Common.{◌^◌, ◌<◌, refl, arith}
 use Rattle.sheets.specs.Sheets.{width}
-use Rattle.sheets.specs.Parts.{apart_from_and, and_from_apart}
+use Rattle.sheets.specs.laws.Parts.{apart_from_and, and_from_apart}
 use Rattle.sheets.proofs.part.PartSheet.new.Goals as goal
 
 pub returns-then-present-absent-eq0 : goal.returns-then-present-absent-eq0

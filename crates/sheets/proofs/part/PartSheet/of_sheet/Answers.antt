@@ -1,6 +1,6 @@
 use Rattle.std.proofs.Common.{◌^◌, ◌<◌, arith}
 use Rattle.sheets.specs.Sheets.{width, others}
-use Rattle.sheets.specs.Parts.{and_from_apart, others_word, others_apart}
+use Rattle.sheets.specs.laws.Parts.{and_from_apart, others_word, others_apart}
 use Rattle.sheets.proofs.part.PartSheet.of_sheet.Goals as goal
 
 pub invariant_of-result : goal.invariant_of-result

@@ -4,7 +4,7 @@ use Rattle.std.proofs.Common.{⊎_elim, arith}
 use Rattle.std.proofs.lemmas.Bool.{or_cases, or_parts}
 use Rattle.sheets.specs.Sheets.{Part, Within}
 use Rattle.sheets.specs.Judging.{Judging, JudgeLaws, both}
-use Rattle.sheets.specs.Parts.{within_itself}
+use Rattle.sheets.specs.laws.Parts.{within_itself}
 
 module _ (j k : Judging) (jl : JudgeLaws j) (kl : JudgeLaws k) where
   both_sound : (p a z : ℕ) → Part p a → (both j k).dead p a ≡ true → Within p a z → (both j k).allows z → ⊥

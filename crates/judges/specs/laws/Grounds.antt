@@ -15,8 +15,8 @@ use Rattle.judges.specs.Rounds.{round}
 use Rattle.judges.specs.Books.{obeys, one_below, lawful}
 use Rattle.judges.specs.Verdicts.{FirstBroken, FirstUngrounded, Says}
 use Rattle.judges.specs.Theorems.{ClosuresStand}
-use Rattle.judges.specs.Breaks.{all_at}
-use Rattle.judges.specs.Reached.{Underway, underway_none, underway_more, underway_less, underway_closure}
+use Rattle.judges.specs.laws.Breaks.{all_at}
+use Rattle.judges.specs.laws.Reached.{Underway, underway_none, underway_more, underway_less, underway_closure}
 use Rattle.sheets.proofs.Subsets.{subset_le, same_subset}
 
 pub closure_unique : (program : List Horn) (a b : ℕ) → Closure program a → Closure program b → a ≡ b

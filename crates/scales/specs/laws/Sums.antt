@@ -9,7 +9,7 @@ use Rattle.std.specs.List.{list_all, list_any}
 use Rattle.sheets.specs.Sheets.{others, Part, Within, Full}
 use Rattle.sheets.specs.Literals.{held, holds}
 use Rattle.sheets.specs.Scaling.{ScaleLaws}
-use Rattle.sheets.specs.Parts.{full_others}
+use Rattle.sheets.specs.laws.Parts.{full_others}
 use Rattle.sheets.proofs.Held.{sure_holds, holds_possible}
 use Rattle.sheets.proofs.Lists.{all_wider}
 use Rattle.total_order.specs.laws.Orders.{order_from}
@@ -18,7 +18,7 @@ use Rattle.rulefile.specs.Model.{WishModel, wish_of}
 use Rattle.scales.specs.declared.cost.LevelCost.{LevelCost}
 use Rattle.scales.specs.Wishes.{wish_cost, wish_floor, sum_at, top, down_from, cost_at, Dominates}
 use Rattle.scales.specs.Levels.{levels_of, cheaper}
-use Rattle.scales.specs.Orders.{less_order, down_above, down_same, down_at, Decided, decided, decided_less}
+use Rattle.scales.specs.laws.Orders.{less_order, down_above, down_same, down_at, Decided, decided, decided_less}
 
 -- ---- one wish
 

@@ -12,7 +12,7 @@ use Rattle.std.specs.List.{list_all}
 use Rattle.sheets.specs.Literals.{held, holds}
 use Rattle.judges.specs.Programs.{weigh, at_most, plain, Horn, lowered, reduct_of_rule, reduct, reaches, Obeys, Closure}
 use Rattle.judges.specs.Rounds.{supported, with_heads, fired, round}
-use Rattle.sheets.specs.Bits.{has_none, has_high}
+use Rattle.sheets.specs.laws.Bits.{has_none, has_high}
 use Rattle.sheets.proofs.Held.{held_wider}
 use Rattle.sheets.proofs.Subsets.{subset_le, more_has, more_keeps, more_subset}
 

@@ -6,7 +6,7 @@ use Rattle.std.specs.List.{list_any, list_all}
 use Rattle.sheets.specs.Sheets.{width, has, Part, Within, Full, full}
 use Rattle.sheets.specs.Judging.{Judging, JudgeLaws}
 use Rattle.sheets.specs.Scaling.{Scaling}
-use Rattle.sheets.specs.Parts.{decides_full, within_itself, within_full}
+use Rattle.sheets.specs.laws.Parts.{decides_full, within_itself, within_full}
 use Rattle.orders.specs.declared.acts.Act.{Act}
 use Rattle.orders.specs.declared.acts.Act.TheVariants.{Pin, Bar, Strike}
 use Rattle.orders.specs.Acts.{KeepsAct, Keeps, is_broken_by, in_range, under}

@@ -8,8 +8,8 @@ use Rattle.std.proofs.lemmas.List.Sums.{AllPass-from_list_all}
 use Rattle.std.specs.List.{list_all, list_any}
 use Rattle.sheets.specs.Sheets.{width, has, Part, Within, Full, Subset}
 use Rattle.sheets.specs.Judging.{JudgeLaws}
-use Rattle.sheets.specs.Bits.{has_and, same_marks, below_marks}
-use Rattle.sheets.specs.Parts.{apart_from_and, and_from_apart, within_itself, within_full}
+use Rattle.sheets.specs.laws.Bits.{has_and, same_marks, below_marks}
+use Rattle.sheets.specs.laws.Parts.{apart_from_and, and_from_apart, within_itself, within_full}
 use Rattle.conducts.specs.Tables.{is_below, lies_within, table_of}
 
 -- ---- lying within, as a test

@@ -6,9 +6,9 @@ use Rattle.std.specs.List.{list_all, list_any}
 use Rattle.sheets.specs.Sheets.{others, Part, Within}
 use Rattle.sheets.specs.Literals.{held, holds}
 use Rattle.sheets.specs.Judging.{JudgeLaws}
-use Rattle.sheets.specs.Bits.{below_marks, marks_below}
+use Rattle.sheets.specs.laws.Bits.{below_marks, marks_below}
 use Rattle.sheets.proofs.Subsets.{subset_le}
-use Rattle.sheets.specs.Parts.{full_others, within_itself}
+use Rattle.sheets.specs.laws.Parts.{full_others, within_itself}
 use Rattle.sheets.proofs.Held.{holds_possible}
 use Rattle.sheets.proofs.Lists.{any_wider, all_wider}
 use Rattle.rulefile.specs.Model.{FileModel}

@@ -9,17 +9,17 @@ use Rattle.std.specs.List.{list_all, list_any}
 use Rattle.sheets.specs.Sheets.{has, others, Part, Within, full, MarksBelow}
 use Rattle.sheets.specs.Literals.{held, holds}
 use Rattle.sheets.specs.Judging.{JudgeLaws}
-use Rattle.sheets.specs.Bits.{has_and, has_first, below_marks}
+use Rattle.sheets.specs.laws.Bits.{has_and, has_first, below_marks}
 use Rattle.sheets.proofs.Subsets.{subset_le}
-use Rattle.sheets.specs.Parts.{decides_full, within_full, within_itself}
+use Rattle.sheets.specs.laws.Parts.{decides_full, within_full, within_itself}
 use Rattle.sheets.proofs.Held.{sure_holds, holds_possible}
 use Rattle.rulefile.specs.declared.constraints.Element.{Element}
 use Rattle.rulefile.specs.Model.{ConstraintModel, RuleModel, FileModel}
 use Rattle.rulefile.specs.Laws.{RuleBelow, Fits}
 use Rattle.judges.specs.Programs.{weigh, at_most, satisfied, rule_holds, reduct_of_rule, reduct, Obeys, AnswerSet}
 use Rattle.judges.specs.Books.{lawful, least, greatest, sure, hopeless, dead_rule, book_of}
-use Rattle.judges.specs.Reached.{weigh_le, HeadsIn, rule_to, heads_inside}
-use Rattle.judges.specs.Grounds.{lawful_yes, lawful_from}
+use Rattle.judges.specs.laws.Reached.{weigh_le, HeadsIn, rule_to, heads_inside}
+use Rattle.judges.specs.laws.Grounds.{lawful_yes, lawful_from}
 
 -- ---- an allowed sheet has only marks below the count
 module _ (z n : ℕ) where

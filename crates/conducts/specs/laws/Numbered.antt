@@ -5,7 +5,7 @@ use Rattle.std.proofs.lemmas.Bool.{cases_order, and_from, and_parts, lt-ltb, le-
 use Rattle.sheets.specs.Sheets.{has, Subset}
 use Rattle.total_order.specs.laws.Orders.{number_order}
 use Rattle.sheets.specs.Scaling.{ScaleLaws}
-use Rattle.sheets.specs.Bits.{has_and}
+use Rattle.sheets.specs.laws.Bits.{has_and}
 use Rattle.sheets.proofs.Subsets.{subset_le}
 use Rattle.conducts.specs.Numbers.{number_of}
 

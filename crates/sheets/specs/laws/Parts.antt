@@ -6,7 +6,7 @@ use Rattle.std.proofs.Math.Pow.{ones_lt}
 use Rattle.std.proofs.lemmas.Nat.{pow_pos, or_lt}
 use Rattle.std.proofs.lemmas.Bool.{both_ways, cases_Bool, cases_lt, eqb-true, eq-eqb, and_parts, and_left, and_right, or_cases, or_left, or_right}
 use Rattle.sheets.specs.Sheets.{width, has, others, Subset, Apart, Part, Within, Full, full}
-use Rattle.sheets.specs.Bits.{has_none, has_high, has_and, has_or, has_first, has_complement, same_marks}
+use Rattle.sheets.specs.laws.Bits.{has_none, has_high, has_and, has_or, has_first, has_complement, same_marks}
 
 -- ---- words with no mark in common
 

@@ -7,9 +7,9 @@ use Rattle.std.proofs.lemmas.Bool.Decides.{nat_tests}
 use Rattle.std.proofs.lemmas.Bool.{cases_order, lt-ltb, le-ltb, ltb-true, and_parts, or_cases, or_left, or_right}
 use Rattle.sheets.specs.Sheets.{width, has, Part, Within}
 use Rattle.sheets.specs.Scaling.{ScaleLaws}
-use Rattle.sheets.specs.Parts.{apart_turned}
+use Rattle.sheets.specs.laws.Parts.{apart_turned}
 use Rattle.total_order.specs.laws.Orders.{number_order}
-use Rattle.sheets.specs.Counting.{marks_same, marks_le}
+use Rattle.sheets.specs.laws.Counting.{marks_same, marks_le}
 use Rattle.scales.specs.Distances.{differ_at, distance_of}
 
 -- ---- exclusive or

@@ -1,0 +1,5 @@
+pub mod BookLaws
+pub mod Reached
+pub mod Grounds
+pub mod Breaks
+pub mod ListLaws

@@ -1,0 +1,5 @@
+pub mod Judges
+pub mod Parts
+pub mod Bits
+pub mod Scales
+pub mod Counting
