@@ -13,17 +13,14 @@ use Rattle.orders.specs.declared.calls.Event.{Event}
 use Rattle.orders.specs.Search.{Search}
 use Rattle.orders.specs.Acts.{in_range, under}
 use Rattle.orders.specs.Searches.{start, Steps, none, priced}
-use Rattle.orders.specs.Places.{LiesBefore}
 use Rattle.orders.specs.Best.{Best, CostsAtMost}
-use Rattle.orders.specs.Calls.{Advanced, AllowedShown, NotCheaper}
+use Rattle.orders.specs.Calls.{Advanced, ShowsCheapest}
 use Rattle.orders.specs.Stages.{marking, calls_had}
 use Rattle.orders.specs.Logs.{docket, calls_of, ByDocket, EventIn, steps_so_far, OnlyAdvances, Shows, Settles, acts_at, Kept}
 use Rattle.orders.specs.Turns.{State, Turn}
 use Rattle.orders.proofs.Walks.{steps_join}
 use Rattle.orders.proofs.Remaining.{steps_bound}
-use Rattle.orders.proofs.Found.{Sound, sound_reached, best_finished}
 use Rattle.orders.proofs.Falls.{falls}
-use Rattle.orders.proofs.Shown.{held_allowed, held_none_cheaper}
 use Rattle.orders.specs.laws.Under.{under_laws, more_acts_best}
 use Rattle.orders.proofs.Runs.{Runs, begun, runs_split, acts_run, calls_had_run, Gone, gone_begun, gone_run}
 
@@ -36,26 +33,15 @@ same_final x y e = cc
 module _ {C : Type 0} (j : Judging) (s : Scaling C) (jl : JudgeLaws j) (sl : ScaleLaws s) where
   -- ---- a settling and an advance, k steps after their search began
 
-  module _ (acts : List Act) (low : list_all in_range acts ≡ true) where
-    sound_from : (x : Search) (n : ℕ) → Steps (under j acts) s start n x → Sound (under j acts) s x
-    sound_from x n steps = sound_reached (under j acts) s (under_laws j acts low jl) sl x n steps
-
-    shows : (n k : ℕ) (x y : Search) (p : Progress C) → Steps (under j acts) s start k x → Advanced (under j acts) s n x p y → Shows (under j acts) s n k p
-    shows n k x y p steps a =
-        let on = steps_join (under j acts) s start x y k p.steps steps a.walked.steps in
-        let sound = sound_from y (k + p.steps) on in
-        record {
-          reached = y;
-          steps = on;
-          few = a.walked.few;
-          all = λ lt. a.shown.finished ∙ a.walked.all lt;
-          shown = a.shown;
-          allowed_held = subst (AllowedShown (under j acts) s) (sym a.shown.held) (held_allowed (under j acts) s (under_laws j acts low jl) y sound);
-          none_cheaper = λ z al before.
-              subst (λ h. NotCheaper s h z) (sym a.shown.held)
-              (held_none_cheaper (under j acts) s (under_laws j acts low jl) y sound z al
-              (⊎_elim (λ t. inl (sym a.shown.finished ∙ t)) (λ l. inr (subst₂ (λ present absent. LiesBefore present absent z) a.shown.present a.shown.absent l)) before));
-        }
+  shows : (acts : List Act) (n k : ℕ) (x y : Search) (p : Progress C) → Steps (under j acts) s start k x → Advanced (under j acts) s n x p y → ShowsCheapest (under j acts) s p → Shows (under j acts) s n k p
+  shows acts n k x y p steps a cheapest = record {
+    reached = y;
+    steps = steps_join (under j acts) s start x y k p.steps steps a.walked.steps;
+    few = a.walked.few;
+    all = λ lt. a.shown.finished ∙ a.walked.all lt;
+    shown = a.shown;
+    cheapest = cheapest;
+  }
 
   settle_turn : (k : ℕ) (t : State) (r : Answer C) (u : State) → Gone j s k t → Turn j s t Settle r u → (answer : Option (ℕ × C)) × (r ≡ Final answer) × Settles (under j t.acts) s k answer
   settle_turn k t r u g turn =
@@ -71,14 +57,14 @@ module _ {C : Type 0} (j : Judging) (s : Scaling C) (jl : JudgeLaws j) (sl : Sca
           finished = e.finished;
           few = steps_bound (under j t.acts) s jl.few last (k + e.remaining) on;
           held = refl;
-          best = best_finished (under j t.acts) s (under_laws j t.acts g.low jl) sl last e.finished (sound_from t.acts g.low last (k + e.remaining) on);
+          best = turn.searches.3;
         },
       )
 
   advance_turn : (k n : ℕ) (t : State) (r : Answer C) (u : State) → Gone j s k t → Turn j s t (Advance n) r u → (p : Progress C) × (r ≡ Shown p) × Shows (under j t.acts) s n k p
   advance_turn k n t r u g turn =
       let a = turn.searches in
-      (a.0, a.1, shows t.acts g.low n k t.search u.search a.0 (g.steps turn.from) a.2)
+      (a.0, a.1, shows t.acts n k t.search u.search a.0 (g.steps turn.from) a.2 a.3)
 
   -- ---- an event of a run, between the states before and after it
 

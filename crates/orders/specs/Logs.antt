@@ -16,7 +16,7 @@ use Rattle.orders.specs.Dockets.{refused_act, undo_refused, after_act, after_und
 use Rattle.orders.specs.Searches.{start, Steps, priced}
 use Rattle.orders.specs.Places.{Before}
 use Rattle.orders.specs.Best.{Best, CostsAtMost}
-use Rattle.orders.specs.Calls.{Showing, AllowedShown, NotCheaper}
+use Rattle.orders.specs.Calls.{Showing, ShowsCheapest}
 use Rattle.orders.specs.Stages.{marking, Effect, adds, takes_off, begins, takes_steps, ends, moves, row, calls_had}
 
 -- ---- the docket, from the count n and the calls alone
@@ -119,10 +119,8 @@ module _ {C : Type 0} (j : Judging) (s : Scaling C) where
     pub all : p.steps < n → p.finished ≡ true
     -- this search is shown
     pub shown : Showing j s reached p
-    -- the sheet that it holds is allowed
-    pub allowed_held : AllowedShown j s p.held
-    -- no allowed sheet before the place costs less than it; with no sheet shown, none lies there
-    pub none_cheaper : (z : ℕ) → j.allows z → Before p.finished p.place.present p.place.absent z → NotCheaper s p.held z
+    -- its sheet is allowed, and nothing cheaper lies before its place
+    pub cheapest : ShowsCheapest j s p
 
   -- what a settling answers, `before` steps after its search began
   pub record Settles (before : ℕ) (answer : Option (ℕ × C)) : Type 0 where

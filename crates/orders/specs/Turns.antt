@@ -12,7 +12,8 @@ use Rattle.orders.specs.declared.stage.Order.{Order}
 use Rattle.orders.specs.declared.stage.Order.TheVariants.{Marking, Seeking, Settled}
 use Rattle.orders.specs.Acts.{under}
 use Rattle.orders.specs.Searches.{start, Ended, priced}
-use Rattle.orders.specs.Calls.{Advanced}
+use Rattle.orders.specs.Best.{Best}
+use Rattle.orders.specs.Calls.{Advanced, ShowsCheapest}
 use Rattle.orders.specs.Stages.{Stage, marking, seeking, settled, same_stage, Effect, adds, takes_off, begins, takes_steps, ends, moves, row}
 use Rattle.orders.specs.Logs.{after_call, ByDocket}
 use Rattle.orders.specs.Models.{acts_of}
@@ -29,8 +30,8 @@ module _ {C : Type 0} (j : Judging) (s : Scaling C) where
   SearchTurn t (adds a) r u = Unit {0}
   SearchTurn t takes_off r u = Unit {0}
   SearchTurn t begins r u = u.search ≡ start
-  SearchTurn t (takes_steps n) r u = (p : Progress C) × (r ≡ Shown p) × Advanced (under j t.acts) s n t.search p u.search
-  SearchTurn t ends r u = (last : Search) × (r ≡ Final (priced s last.held)) × Ended (under j t.acts) s t.search last
+  SearchTurn t (takes_steps n) r u = (p : Progress C) × (r ≡ Shown p) × Advanced (under j t.acts) s n t.search p u.search × ShowsCheapest (under j t.acts) s p
+  SearchTurn t ends r u = (last : Search) × (r ≡ Final (priced s last.held)) × Ended (under j t.acts) s t.search last × Best (under j t.acts) s (priced s last.held)
   SearchTurn t moves r u = Unit {0}
 
   -- the stage of t has the call c, which is answered r and leads to u
