@@ -3,13 +3,13 @@ use Rattle.std.proofs.Common.{◌≡◌, ℕ, ◌-◌, ◌^◌, ◌<◌, ◌≤�
 use lib.Bits.{and_lt, or_lt}
 use lib.Pow.{ones_lt}
 use Rattle.std.proofs.lemmas.Bool.{both_ways, cases_lt, cases_Bool, and_parts, and_from, and_left, or_cases, or_left, or_right}
-use Rattle.sheets.specs.Sheets.{width, has, others, MarksBelow, Part, Within, Full, full}
+use Rattle.sheets.specs.Sheets.{width, has, others, first_marks, MarksBelow, Part, Within, Full, full}
 use Rattle.sheets.specs.laws.Bits.{has_high, has_and, has_or, has_first, below_marks, marks_below, same_marks}
 use Rattle.sheets.specs.laws.Parts.{others_word, has_others, others_apart, deciding_apart, decides_full}
 use Rattle.orders.specs.Search.{Search}
 use Rattle.orders.specs.Places.{DecidesFirst, LiesBefore}
 use Rattle.orders.proofs.Dismissals.{Well, Agrees, Precedes}
-use Rattle.orders.specs.Searches.{first_marks, decided_at, present_at, absent_at}
+use Rattle.orders.specs.Searches.{decided_at, present_at, absent_at}
 
 first_word : (k : ℕ) → first_marks k < 2 ^ width
 first_word k =

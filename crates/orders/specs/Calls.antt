@@ -1,5 +1,6 @@
 -- What an advance shows, and what a settling ends on.
 use Rattle.std.specs.Prelude.{◌≡◌, ℕ, false, Some, None, Option}
+use Rattle.sheets.specs.Sheets.{Sheet}
 use Rattle.sheets.specs.Judging.{Judging}
 use Rattle.sheets.specs.Scaling.{Scaling}
 use Rattle.orders.specs.Search.{Search}
@@ -8,13 +9,13 @@ use Rattle.orders.specs.Searches.{start, present_at, absent_at, Steps, Walked, E
 use Rattle.orders.specs.Places.{DecidesFirst, Before}
 
 -- the sheet that is shown is allowed, and has the cost that is shown
-abbrev pub AllowedShown : {C : Type 0} → Judging → Scaling C → Option (ℕ × C) → Type 0
+abbrev pub AllowedShown : {C : Type 0} → Judging → Scaling C → Option (Sheet × C) → Type 0
 AllowedShown j s None = Unit {0}
 AllowedShown j s (Some shown) = j.allows shown.0 × (shown.1 ≡ s.cost shown.0)
 
 -- z costs no less than what is shown; where nothing is shown this is false, so `none_cheaper` then says that no such sheet
 -- exists
-abbrev pub NotCheaper : {C : Type 0} → Scaling C → Option (ℕ × C) → ℕ → Type 0
+abbrev pub NotCheaper : {C : Type 0} → Scaling C → Option (Sheet × C) → Sheet → Type 0
 NotCheaper s None z = ⊥
 NotCheaper s (Some shown) z = s.below (s.cost z) shown.1 ≡ false
 
@@ -38,14 +39,14 @@ module _ {C : Type 0} (j : Judging) (s : Scaling C) where
     -- the sheet that is shown is allowed
     pub allowed_held : AllowedShown j s p.held
     -- no allowed sheet before the place costs less than it; with no sheet shown, none lies there
-    pub none_cheaper : (z : ℕ) → j.allows z → Before p.finished p.place.present p.place.absent z → NotCheaper s p.held z
+    pub none_cheaper : (z : Sheet) → j.allows z → Before p.finished p.place.present p.place.absent z → NotCheaper s p.held z
 
   -- a search has come to the place from the start
   abbrev pub Reached : Search → Type 0
   Reached x = (n : ℕ) × Steps j s start n x
 
   -- a settling takes the steps that remain, and ends on the sheet that is then held
-  pub record Settling (before : Search) (held : Option ℕ) : Type 0 where
+  pub record Settling (before : Search) (held : Option Sheet) : Type 0 where
     pub last : Search
     pub ended : Ended j s before last
     pub its_held : held ≡ last.held

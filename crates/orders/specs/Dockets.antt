@@ -1,6 +1,7 @@
 -- The docket: which calls on the acts are refused, and the acts that then stand.
-use Rattle.std.specs.Prelude.{ℕ, ◌^◌, Bool, false, if◌then◌else◌, not, List, [], ◌∷◌, ◌++◌, length, Some, None, Ok, Err, Option, Result, nat_le, nat_lt}
+use Rattle.std.specs.Prelude.{ℕ, Bool, false, if◌then◌else◌, not, List, [], ◌∷◌, ◌++◌, length, Some, None, Ok, Err, Option, Result, nat_le}
 use Rattle.std.specs.List.{list_any}
+use Rattle.sheets.specs.Sheets.{Count, within_count}
 use Rattle.orders.specs.declared.acts.Act.{Act}
 use Rattle.orders.specs.declared.acts.Act.TheVariants.{Pin, Bar, Strike}
 use Rattle.orders.specs.declared.acts.Refusal.{Refusal}
@@ -8,10 +9,10 @@ use Rattle.orders.specs.declared.acts.Refusal.TheVariants.{MarkRange, MarkTaken,
 use Rattle.orders.specs.Acts.{most_acts, pins_or_bars, strikes}
 
 -- a mark of the act is not below the count n
-abbrev pub beyond : ℕ → Act → Bool
+abbrev pub beyond : Count → Act → Bool
 beyond n (Pin mark) = nat_le n mark
 beyond n (Bar mark) = nat_le n mark
-beyond n (Strike sheet) = not (nat_lt sheet (2 ^ n))
+beyond n (Strike sheet) = not (within_count n sheet)
 
 -- the mark is already pinned or barred
 abbrev pub mark_named : List Act → Act → Bool
@@ -26,7 +27,7 @@ sheet_struck acts (Bar mark) = false
 sheet_struck acts (Strike sheet) = list_any (strikes sheet) acts
 
 -- the refusal applies to a pin, bar or strike, by the count n and the acts that stand
-abbrev pub applies : ℕ → List Act → Act → Refusal → Bool
+abbrev pub applies : Count → List Act → Act → Refusal → Bool
 applies n acts a MarkRange = beyond n a
 applies n acts a MarkTaken = mark_named acts a
 applies n acts a SheetStruck = sheet_struck acts a
@@ -39,7 +40,7 @@ first_that test [] = None
 first_that test (r ∷ rest) = if test r then Some r else first_that test rest
 
 -- by what a pin, bar or strike is refused
-abbrev pub refused_act : ℕ → List Act → Act → Option Refusal
+abbrev pub refused_act : Count → List Act → Act → Option Refusal
 refused_act n acts a = first_that (applies n acts a) (MarkRange ∷ MarkTaken ∷ SheetStruck ∷ DocketFull ∷ [])
 
 -- by what an undo is refused
@@ -53,7 +54,7 @@ unless (Some why) acts more = acts
 unless None acts more = more
 
 -- the acts after a pin, bar or strike: unless it is refused, it is added at the end
-abbrev pub after_act : ℕ → List Act → Act → List Act
+abbrev pub after_act : Count → List Act → Act → List Act
 after_act n acts a = unless (refused_act n acts a) acts (acts ++ (a ∷ []))
 
 -- the acts after an undo: the last is taken off

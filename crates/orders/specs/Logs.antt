@@ -1,5 +1,6 @@
 -- What every log of the calls on an order keeps.
 use Rattle.std.specs.Prelude.{◌≡◌, ℕ, suc, ◌+◌, ◌-◌, ◌^◌, ◌<◌, ◌≤◌, min, true, List, [], ◌∷◌, ◌++◌, map, take, Ok, Err, Option, Result}
+use Rattle.sheets.specs.Sheets.{Sheet, Count}
 use Rattle.sheets.specs.Judging.{Judging}
 use Rattle.sheets.specs.Scaling.{Scaling}
 use Rattle.orders.specs.declared.acts.Act.{Act}
@@ -22,7 +23,7 @@ use Rattle.orders.specs.Stages.{marking, Effect, adds, takes_off, begins, takes_
 -- ---- the docket, from the count n and the calls alone
 
 -- the acts after a call that does this
-abbrev pub after_effect : ℕ → List Act → Effect → List Act
+abbrev pub after_effect : Count → List Act → Effect → List Act
 after_effect n acts (adds a) = after_act n acts a
 after_effect n acts takes_off = after_undo acts
 after_effect n acts begins = acts
@@ -31,16 +32,16 @@ after_effect n acts ends = acts
 after_effect n acts moves = acts
 
 -- the acts after one call more
-abbrev pub after_call : ℕ → List Act → Call → List Act
+abbrev pub after_call : Count → List Act → Call → List Act
 after_call n acts c = after_effect n acts (row c).effect
 
 -- the acts after these calls
-abbrev pub after_calls : ℕ → List Act → List Call → List Act
+abbrev pub after_calls : Count → List Act → List Call → List Act
 after_calls n acts [] = acts
 after_calls n acts (c ∷ calls) = after_calls n (after_call n acts c) calls
 
 -- the acts that stand after the calls
-abbrev pub docket : ℕ → List Call → List Act
+abbrev pub docket : Count → List Call → List Act
 docket n calls = after_calls n [] calls
 
 -- ---- answers that the docket decides
@@ -51,7 +52,7 @@ answer_of (Ok count) = Stands count
 answer_of (Err why) = Refused why
 
 -- the answer to a call that does this, where it is no advance and no settle, by the count n and the acts that stood before it
-abbrev pub Decided : {C : Type 0} → ℕ → List Act → Effect → Answer C → Type 0
+abbrev pub Decided : {C : Type 0} → Count → List Act → Effect → Answer C → Type 0
 Decided n acts (adds a) r = r ≡ answer_of (returned (refused_act n acts a) (after_effect n acts (adds a)))
 Decided n acts takes_off r = r ≡ answer_of (returned (undo_refused acts) (after_effect n acts takes_off))
 Decided n acts begins r = r ≡ Moved
@@ -60,7 +61,7 @@ Decided n acts ends r = Unit {0}
 Decided n acts moves r = r ≡ Moved
 
 -- the same of a call
-abbrev pub ByDocket : {C : Type 0} → ℕ → List Act → Call → Answer C → Type 0
+abbrev pub ByDocket : {C : Type 0} → Count → List Act → Call → Answer C → Type 0
 ByDocket n acts c r = Decided n acts (row c).effect r
 
 -- ---- events
@@ -123,7 +124,7 @@ module _ {C : Type 0} (j : Judging) (s : Scaling C) where
     pub cheapest : ShowsCheapest j s p
 
   -- what a settling answers, `before` steps after its search began
-  pub record Settles (before : ℕ) (answer : Option (ℕ × C)) : Type 0 where
+  pub record Settles (before : ℕ) (answer : Option (Sheet × C)) : Type 0 where
     -- the defined steps that remain lead to the end of the search
     pub reached : Search
     pub remaining : ℕ
@@ -160,7 +161,7 @@ module _ {C : Type 0} (j : Judging) (s : Scaling C) where
     -- pin, bar, strike and undo are answered by the docket; seek, withdraw and reopen lead to another stage
     pub decided : (c : Call) (r : Answer C) (e : EventIn log c r) → ByDocket j.count (acts_at e) c r
     -- a settling ends the search, on the cheapest sheet that is allowed and keeps the acts, or on no sheet
-    pub settlings : (r : Answer C) (e : EventIn log Settle r) → (answer : Option (ℕ × C)) × (r ≡ Final answer) × Settles (under j (acts_at e)) s (steps_so_far e.before) answer
+    pub settlings : (r : Answer C) (e : EventIn log Settle r) → (answer : Option (Sheet × C)) × (r ≡ Final answer) × Settles (under j (acts_at e)) s (steps_so_far e.before) answer
     -- an advance takes the defined steps, and leaves nothing cheaper before the place
     pub advances : (n : ℕ) (r : Answer C) (e : EventIn log (Advance n) r) → (p : Progress C) × (r ≡ Shown p) × Shows (under j (acts_at e)) s n (steps_so_far e.before) p
     -- in one search a cost that is shown never rises
@@ -168,11 +169,11 @@ module _ {C : Type 0} (j : Judging) (s : Scaling C) where
         log ≡ before ++ (record { call = Advance n; answer = Shown p } ∷ (middle ++ (record { call = Advance k; answer = Shown q } ∷ after))) →
         CostsAtMost s q.held p.held
     -- nor does its settled sheet cost more than one that was shown
-    pub ending : (n : ℕ) (p : Progress C) (answer : Option (ℕ × C)) (before middle after : List (Event C)) → OnlyAdvances middle →
+    pub ending : (n : ℕ) (p : Progress C) (answer : Option (Sheet × C)) (before middle after : List (Event C)) → OnlyAdvances middle →
         log ≡ before ++ (record { call = Advance n; answer = Shown p } ∷ (middle ++ (record { call = Settle; answer = Final answer } ∷ after))) →
         CostsAtMost s answer p.held
     -- of two settlings, where every act that stands at the one also stands at the other, the other costs no less
-    pub more_acts : (x y : Option (ℕ × C)) (e : EventIn log Settle (Final x)) (f : EventIn log Settle (Final y)) →
+    pub more_acts : (x y : Option (Sheet × C)) (e : EventIn log Settle (Final x)) (f : EventIn log Settle (Final y)) →
         Included (acts_at e) (acts_at f) → CostsAtMost s x y
 
   -- such a log was added to what stood before

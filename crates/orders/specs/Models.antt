@@ -1,5 +1,6 @@
 -- What the code holds, in the words of the definitions.
 use Rattle.std.specs.Prelude.{◌≡◌, ℕ, ◌-◌, List, vec_len, vec_capacity, Result, Vec}
+use Rattle.sheets.specs.Sheets.{Count}
 use Rattle.sheets.specs.Judging.{Judging}
 use Rattle.orders.specs.declared.acts.Act.{Act}
 use Rattle.orders.specs.declared.acts.Refusal.{Refusal}
@@ -12,7 +13,7 @@ abbrev pub acts_of : {J : Type 0} → Acts J → List Act
 acts_of a = a.docket.acts
 
 -- the count of the judge below
-abbrev pub count_of : {J : Type 0} → (J → Judging) → Acts J → ℕ
+abbrev pub count_of : {J : Type 0} → (J → Judging) → Acts J → Count
 count_of judging a = (judging a.judge).count
 
 -- a pin, bar or strike was called: it is refused by the first refusal that applies, or else added at the end

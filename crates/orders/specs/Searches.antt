@@ -1,6 +1,6 @@
 -- One search: its place, one step, and a number of steps.
 use Rattle.std.specs.Prelude.{◌≡◌, ℕ, zero, suc, ◌+◌, ◌-◌, ◌^◌, ◌<◌, ◌≤◌, min, Bool, true, false, if◌then◌else◌, not, ◌||◌, Some, None, Option, bit_and, bit_or}
-use Rattle.sheets.specs.Sheets.{width, has, others, full}
+use Rattle.sheets.specs.Sheets.{Sheet, Count, first_marks, width, has, others, full}
 use Rattle.sheets.specs.Judging.{Judging}
 use Rattle.sheets.specs.Scaling.{Scaling}
 use Rattle.orders.specs.Search.{Search}
@@ -11,33 +11,29 @@ use Rattle.orders.specs.Search.{Search}
 abbrev pub start : Search
 start = record { depth = 0; present = 0; held = None; finished = false }
 
--- the sheet of the marks below k
-abbrev pub first_marks : ℕ → ℕ
-first_marks k = 2 ^ min k width - 1
-
 -- the marks that the place decides: the first ones, and those from the count n upward
-abbrev pub decided_at : ℕ → Search → ℕ
+abbrev pub decided_at : Count → Search → Sheet
 decided_at n x = bit_or (first_marks x.depth) (others (first_marks n))
 
 -- the place as a part-sheet: of the marks that it decides, those that are present
-unfoldable pub present_at : ℕ → Search → ℕ
+unfoldable pub present_at : Count → Search → Sheet
 present_at n x = bit_and x.present (decided_at n x)
 
 -- and those that are absent
-unfoldable pub absent_at : ℕ → Search → ℕ
+unfoldable pub absent_at : Count → Search → Sheet
 absent_at n x = bit_and (others x.present) (decided_at n x)
 
 -- ---- one step
 
 -- dismissing the place that decides k marks, of which those of z are present: the trailing present decisions are dropped,
 -- and the last absent one is turned into present; where no decision is left, the search is finished
-abbrev pub dismissed : ℕ → ℕ → Option ℕ → Search
+abbrev pub dismissed : Count → Sheet → Option Sheet → Search
 dismissed zero z held = record { depth = 0; present = 0; held = held; finished = true }
 dismissed (suc k) z held =
     if has z k then dismissed k (z - 2 ^ k) held else record { depth = suc k; present = z + 2 ^ k; held = held; finished = false }
 
 -- a sheet is held, and the floor is not below its cost
-abbrev pub floor_not_below : {C : Type 0} → Scaling C → Option ℕ → C → Bool
+abbrev pub floor_not_below : {C : Type 0} → Scaling C → Option Sheet → C → Bool
 floor_not_below s None floor = false
 floor_not_below s (Some h) floor = not (s.below floor (s.cost h))
 
@@ -84,6 +80,6 @@ module _ {C : Type 0} (j : Judging) (s : Scaling C) where
     pub finished : after.finished ≡ true
 
 -- the sheet that is held with its cost, if there is one
-abbrev pub priced : {C : Type 0} → Scaling C → Option ℕ → Option (ℕ × C)
+abbrev pub priced : {C : Type 0} → Scaling C → Option Sheet → Option (Sheet × C)
 priced s None = None
 priced s (Some z) = Some (z, s.cost z)

@@ -1,6 +1,6 @@
 -- What else is said of the search of any judge and scale.
 use Rattle.std.specs.Prelude.{◌≡◌, ℕ, suc, ◌-◌, ◌^◌, ◌≤◌, true, false, ◌⊎◌, Some}
-use Rattle.sheets.specs.Sheets.{MarksBelow, Within, Earlier}
+use Rattle.sheets.specs.Sheets.{Sheet, MarksBelow, Within, Earlier}
 use Rattle.sheets.specs.Judging.{Judging}
 use Rattle.sheets.specs.Scaling.{Scaling}
 use Rattle.orders.specs.Search.{Search}
@@ -19,23 +19,23 @@ module _ {C : Type 0} (j : Judging) (s : Scaling C) where
     pub once : (m n : ℕ) (x y : Search) → Steps j s start m x → Steps j s start n y → x.finished ≡ true → y.finished ≡ true → m ≡ n
 
   -- the sheet lies before the place of the search
-  abbrev pub BeforeAt : Search → ℕ → Type 0
+  abbrev pub BeforeAt : Search → Sheet → Type 0
   BeforeAt x z = Before x.finished (present_at j.count x) (absent_at j.count x) z
 
   -- the step from x passes the sheet z, which lies within the place: z is not allowed, or costs no less than the sheet that
   -- is held, or is the one that is held from then on
-  pub record Passed (x : Search) (z : ℕ) : Type 0 where
+  pub record Passed (x : Search) (z : Sheet) : Type 0 where
     pub within : Within (present_at j.count x) (absent_at j.count x) z
     pub why :
         (j.allows z → ⊥)
-        ⊎ (((h : ℕ) × (x.held ≡ Some h) × (s.below (s.cost z) (s.cost h) ≡ false))
+        ⊎ (((h : Sheet) × (x.held ≡ Some h) × (s.below (s.cost z) (s.cost h) ≡ false))
         ⊎ ((stepped j s x).held ≡ Some z))
 
   -- a search goes through the sheets in their order
   pub record SearchInOrder : Type 0 where
     -- with a sheet, each earlier one lies before the place
-    pub in_order : (m : ℕ) (x : Search) → Steps j s start m x → (y z : ℕ) → BeforeAt x z → Earlier y z → BeforeAt x y
+    pub in_order : (m : ℕ) (x : Search) → Steps j s start m x → (y z : Sheet) → BeforeAt x z → Earlier y z → BeforeAt x y
     -- what lies before the place lies before the next one
-    pub onward : (m : ℕ) (x : Search) → Steps j s start m x → x.finished ≡ false → (z : ℕ) → BeforeAt x z → BeforeAt (stepped j s x) z
+    pub onward : (m : ℕ) (x : Search) → Steps j s start m x → x.finished ≡ false → (z : Sheet) → BeforeAt x z → BeforeAt (stepped j s x) z
     -- and what more lies there is passed by that step
-    pub passes : (m : ℕ) (x : Search) → Steps j s start m x → x.finished ≡ false → (z : ℕ) → MarksBelow j.count z → BeforeAt (stepped j s x) z → BeforeAt x z ⊎ Passed x z
+    pub passes : (m : ℕ) (x : Search) → Steps j s start m x → x.finished ≡ false → (z : Sheet) → MarksBelow j.count z → BeforeAt (stepped j s x) z → BeforeAt x z ⊎ Passed x z

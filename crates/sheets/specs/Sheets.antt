@@ -1,5 +1,5 @@
 -- Sheets and part-sheets, mark by mark.
-use Rattle.std.specs.Prelude.{◌≡◌, ℕ, ◌-◌, ◌/◌, ◌%◌, ◌^◌, ◌<◌, Bool, true, false, ◌⊎◌, ◌==◌, bit_or}
+use Rattle.std.specs.Prelude.{◌≡◌, ℕ, ◌-◌, ◌/◌, ◌%◌, ◌^◌, ◌<◌, min, Bool, true, false, ◌⊎◌, ◌==◌, bit_or, nat_lt}
 
 -- one thing that a sheet may have, by its number
 abbrev pub Mark : Type 0
@@ -25,9 +25,17 @@ has sheet i = sheet / 2 ^ i % 2 == 1
 abbrev pub others : Sheet → Sheet
 others sheet = 2 ^ width - 1 - sheet
 
+-- the sheet of the marks below n; from the width upward, of all marks
+abbrev pub first_marks : Count → Sheet
+first_marks n = 2 ^ min n width - 1
+
 -- each mark of the sheet is below n
 abbrev pub MarksBelow : Count → Sheet → Type 0
 MarksBelow n sheet = (i : Mark) → has sheet i ≡ true → i < n
+
+-- the same as a test
+abbrev pub within_count : Count → Sheet → Bool
+within_count n sheet = nat_lt sheet (2 ^ n)
 
 -- each mark of y is a mark of z
 abbrev pub Subset : Sheet → Sheet → Type 0

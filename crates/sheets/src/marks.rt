@@ -1,6 +1,6 @@
 // Marks and sheets.
-ghost use Rattle.std.specs.Prelude.{◌≡◌, ◌↔◌, ℕ, ◌-◌, ◌^◌, ◌<◌, min, ◌||◌, IsTrue, if◌then◌else◌, ◌==◌, bit_or, nat_lt};
-ghost use Rattle.sheets.specs.Sheets.{width, has, MarksBelow};
+ghost use Rattle.std.specs.Prelude.{◌≡◌, ◌↔◌, ℕ, ◌^◌, ◌<◌, ◌||◌, IsTrue, if◌then◌else◌, ◌==◌, bit_or, nat_lt};
+ghost use Rattle.sheets.specs.Sheets.{width, has, first_marks, MarksBelow, within_count};
 
 // One thing that a sheet may have, by its number: a plain number, which files, calls and contracts name as it is.
 pub type Mark = u8;
@@ -20,7 +20,7 @@ pub fn has_mark(sheet: Sheet, mark: Mark) -> bool
 
 // The sheet has only marks below the count.
 pub fn within_count(sheet: Sheet, count: u8) -> bool
-    ensures value { result ≡ nat_lt sheet (2 ^ count) }
+    ensures value { result ≡ within_count count sheet }
     ensures meaning { IsTrue result ↔ MarksBelow count sheet }
 {
     count >= WIDTH || sheet >> count == 0
@@ -28,7 +28,7 @@ pub fn within_count(sheet: Sheet, count: u8) -> bool
 
 // The sheet of the marks below the count; from `WIDTH` upward, of all marks.
 pub fn first_marks(count: u8) -> Sheet
-    ensures { result ≡ 2 ^ min count width - 1 }
+    ensures { result ≡ first_marks count }
 {
     if count < WIDTH {
         (1 << count) - 1
