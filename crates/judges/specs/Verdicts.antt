@@ -51,7 +51,7 @@ pub record Judged (f : FileModel) (z : Sheet) (r : Result Verdict Refusal) : Typ
   pub said : (v : Verdict) → MarksBelow f.count z → Says f.rules z v → r ≡ Ok v
 
 -- the same where memory may be wanting; nothing is said then
-abbrev pub Answered : FileModel → Sheet → Result Verdict VerdictError → Type 0
-Answered f z (Ok v) = Judged f z (Ok v)
-Answered f z (Err (Refused why)) = Judged f z (Err why)
-Answered f z (Err Memory) = Unit {0}
+abbrev pub BytesJudged : FileModel → Sheet → Result Verdict VerdictError → Type 0
+BytesJudged f z (Ok v) = Judged f z (Ok v)
+BytesJudged f z (Err (Refused why)) = Judged f z (Err why)
+BytesJudged f z (Err Memory) = Unit {0}

@@ -2,7 +2,7 @@
 ghost use Rattle.std.specs.Prelude.{◌≡◌};
 ghost use Rattle.rulefile.specs.Answers.{file_of};
 ghost use Rattle.rulefile.specs.Format.{decode, file_or_head_alone};
-ghost use Rattle.judges.specs.Verdicts.{Judged, Answered};
+ghost use Rattle.judges.specs.Verdicts.{Judged, BytesJudged};
 ghost use Rattle.judges.specs.declared.answers.VerdictError.TheVariants.{Refused, Memory};
 
 use crate::verdicts::{Refusal, Verdict, rules_verdict};
@@ -47,7 +47,7 @@ pub fn sheet_verdict(file: &RuleFile, sheet: Sheet) -> Result<Verdict, Refusal>
 
 // The same for a file that is given by its bytes; refused bytes stand for a head alone.
 pub fn bytes_verdict(heap: Global, bytes: &[u8], sheet: Sheet) -> Result<Verdict, VerdictError>
-    ensures { Answered (file_or_head_alone (decode bytes.now)) sheet result }
+    ensures { BytesJudged (file_or_head_alone (decode bytes.now)) sheet result }
 {
     let file = read_or_head_alone(heap, bytes)?;
     Ok(sheet_verdict(&file, sheet)?)

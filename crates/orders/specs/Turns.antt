@@ -72,6 +72,6 @@ module _ {J S C : Type 0} {j : _} {s : _} (judging : J → Judging) (scaling : S
     pub scale : scale_of next ≡ scale_of order
 
   -- so it does, or the stage of the order does not have the call
-  abbrev pub Answered : Order J S C j s → Call → Option (Order J S C j s × Answer C) → Type 0
-  Answered order c None = same_stage (state_of order).stage (row c).from ≡ false
-  Answered order c (Some next) = Turned order c next.0 next.1
+  abbrev pub CallAnswered : Order J S C j s → Call → Option (Order J S C j s × Answer C) → Type 0
+  CallAnswered order c None = same_stage (state_of order).stage (row c).from ≡ false
+  CallAnswered order c (Some next) = Turned order c next.0 next.1

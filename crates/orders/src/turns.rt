@@ -2,7 +2,7 @@
 ghost use Rattle.std.specs.Prelude.{◌≡◌};
 ghost use Rattle.orders.specs.declared.stage.Order.TheVariants.{Marking as MarkingOrder, Seeking as SeekingOrder, Settled as SettledOrder};
 ghost use Rattle.orders.specs.Logs.{answer_of};
-ghost use Rattle.orders.specs.Turns.{Answered};
+ghost use Rattle.orders.specs.Turns.{CallAnswered};
 
 use crate::acts::Refusal;
 use crate::calls::{Answer, Call};
@@ -29,7 +29,7 @@ fn marking_turn<J: Judge + Drop, S: Scale + Drop>(
     mut marking: Marking<J, S>,
     call: Call,
 ) -> Option<(Order<J, S>, Answer<S::Cost>)>
-    ensures { Answered J.judging S.scaling (MarkingOrder marking) call result }
+    ensures { CallAnswered J.judging S.scaling (MarkingOrder marking) call result }
 {
     let returned = match call {
         Call::Pin(mark) => marking.pin(mark),
@@ -47,7 +47,7 @@ fn seeking_turn<J: Judge + Drop, S: Scale + Drop>(
     mut seeking: Seeking<J, S>,
     call: Call,
 ) -> Option<(Order<J, S>, Answer<S::Cost>)>
-    ensures { Answered J.judging S.scaling (SeekingOrder seeking) call result }
+    ensures { CallAnswered J.judging S.scaling (SeekingOrder seeking) call result }
 {
     match call {
         Call::Advance(most) => {
@@ -69,7 +69,7 @@ fn settled_turn<J: Judge + Drop, S: Scale + Drop>(
     settled: Settled<J, S>,
     call: Call,
 ) -> Option<(Order<J, S>, Answer<S::Cost>)>
-    ensures { Answered J.judging S.scaling (SettledOrder settled) call result }
+    ensures { CallAnswered J.judging S.scaling (SettledOrder settled) call result }
 {
     match call {
         Call::Reopen => Some((Order::Marking(settled.reopen()), Answer::Moved)),
@@ -83,7 +83,7 @@ pub(crate) fn turn<J: Judge + Drop, S: Scale + Drop>(
     order: Order<J, S>,
     call: Call,
 ) -> Option<(Order<J, S>, Answer<S::Cost>)>
-    ensures { Answered J.judging S.scaling order call result }
+    ensures { CallAnswered J.judging S.scaling order call result }
 {
     match order {
         Order::Marking(marking) => marking_turn(marking, call),

@@ -1,5 +1,5 @@
 pub mod Numbers
-pub mod ErrorTexts
+pub mod Words
 pub mod Writing
 pub mod Lines
 pub mod Reports

@@ -1,7 +1,7 @@
 // Why no report is written.
 ghost use Rattle.std.specs.Prelude.{◌≡◌, Some};
 ghost use Rattle.report.specs.Numbers.{number};
-ghost use Rattle.report.specs.ErrorTexts.{refusal_text, error_text};
+ghost use Rattle.report.specs.Words.{refusal_text, error_text};
 ghost use Rattle.report.specs.declared.refusals.ReportError.TheVariants.{Refused, Memory};
 
 use std::alloc::AllocError;

@@ -7,8 +7,8 @@ use Rattle.orders.specs.Acts.{under}
 use Rattle.orders.specs.Dockets.{after_act}
 use Rattle.orders.specs.Models.{acts_of, held_to, Added}
 use Rattle.orders.specs.Best.{Best}
-use Rattle.conducts.proofs.direct.settle_by_advances.Goals as goal
-use Rattle.conducts.proofs.direct.settle_by_advances.Goals.{else-loop-test, then-loop-test+then-advance}
+use Rattle.orders_tests.proofs.direct.settle_by_advances.Goals as goal
+use Rattle.orders_tests.proofs.direct.settle_by_advances.Goals.{else-loop-test, then-loop-test+then-advance}
 
 -- a pin of an order on which no act stood
 pinned : {J : Type 0} (judging : J → Judging) (judge : J) (before after : Acts J) (mark : ℕ) (r : Result ℕ Refusal) → acts_of before ≡ [] → before.judge ≡ judge

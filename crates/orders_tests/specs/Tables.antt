@@ -1,18 +1,15 @@
 -- A table of sheets as a judge.
-use Rattle.std.specs.Prelude.{◌≡◌, ℕ, ◌^◌, Bool, true, not, ◌&&◌, List, ◌==◌, bit_and, nat_eq, nat_lt}
+use Rattle.std.specs.Prelude.{◌≡◌, Bool, true, not, ◌&&◌, List, ◌==◌, bit_and, nat_eq}
 use Rattle.std.specs.List.{list_any}
+use Rattle.sheets.specs.Sheets.{Sheet, Count}
 use Rattle.sheets.specs.Judging.{Judging}
 
--- the sheet has only marks below the count
-abbrev pub is_below : ℕ → ℕ → Bool
-is_below count z = nat_lt z (2 ^ count)
-
 -- the sheet z has every present mark and no absent one
-abbrev pub lies_within : ℕ → ℕ → ℕ → Bool
+abbrev pub lies_within : Sheet → Sheet → Sheet → Bool
 lies_within p a z = bit_and p z == p && bit_and a z == 0
 
 -- allowed are the listed sheets, and dead is a part-sheet within which none of them lies
-abbrev pub table_of : ℕ → List ℕ → Judging
+abbrev pub table_of : Count → List Sheet → Judging
 table_of count listed = record {
   count = count;
   allows = λ z. list_any (nat_eq z) listed ≡ true;

@@ -8,7 +8,7 @@ use Rattle.orders.specs.declared.stage.Order.{Order}
 use Rattle.orders.specs.Models.{room_of, acts_of}
 use Rattle.orders.specs.Turns.{Turn, Turned, state_of, judge_of, scale_of}
 use Rattle.orders.proofs.Conducted.{along_none, along_more, along_all, along_room, along_stops}
-use Rattle.orders.proofs.logs.conduct.Goals as goal
+use Rattle.orders.proofs.conducting.conduct.Goals as goal
 
 -- a call on an order over the judge and the scale leads to one over the same
 module _ {J S C : Type 0} {j : _} {s : _} (judging : J → Judging) (scaling : S → Scaling C) where

@@ -13,7 +13,7 @@ use Rattle.judges.specs.laws.Grounds.{lawful_yes, lawful_from, obeyed}
 use Rattle.judges.specs.laws.BookLaws.{inside}
 use Rattle.scales.specs.Wishes.{wish_cost, sum_at}
 use Rattle.orders.specs.Searches.{present_at, absent_at, none, more}
-use Rattle.worked.specs.Cases.{at_most_one, each_other, if_missing, if_not_missing, budget, two_levels, CasesStand}
+use Rattle.semantics_tests.specs.Cases.{at_most_one, each_other, if_missing, if_not_missing, budget, two_levels, CasesStand}
 
 -- nothing is in the closure, and mark 0 is in the sheet
 ungrounded_zero : (program : List RuleModel) (z : ℕ) → Satisfies z program → list_all (obeys 0) (reduct z program) ≡ true → has z 0 ≡ true → FirstUngrounded program z 0

@@ -1,7 +1,7 @@
 // A scale by the sheet as a number. It is short like the distance, but its floor and its cost are others.
 ghost use Rattle.std.specs.Prelude.{◌≡◌};
-ghost use Rattle.conducts.specs.Numbers.{number_of};
-ghost use Rattle.conducts.specs.laws.Numbered.{number_laws};
+ghost use Rattle.orders_tests.specs.Numbers.{number_of};
+ghost use Rattle.orders_tests.specs.laws.Numbered.{number_laws};
 
 use sheets::{PartSheet, Scale, Sheet};
 

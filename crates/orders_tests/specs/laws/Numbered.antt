@@ -7,7 +7,7 @@ use Rattle.total_order.specs.laws.Orders.{number_order}
 use Rattle.sheets.specs.Scaling.{ScaleLaws}
 use Rattle.sheets.specs.laws.Bits.{has_and}
 use Rattle.sheets.proofs.Subsets.{subset_le}
-use Rattle.conducts.specs.Numbers.{number_of}
+use Rattle.orders_tests.specs.Numbers.{number_of}
 
 -- more marks make no smaller number
 counted_le : (p z counted : ℕ) → Subset p z → bit_and p counted ≤ bit_and z counted

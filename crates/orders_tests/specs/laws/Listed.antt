@@ -6,11 +6,11 @@ use Rattle.std.proofs.lemmas.Bool.{both_ways, cases_Bool, and_from, and_parts, a
 use Rattle.std.proofs.lemmas.List.Folds.{Any-from_list_any, list_any-from_Any}
 use Rattle.std.proofs.lemmas.List.Sums.{AllPass-from_list_all}
 use Rattle.std.specs.List.{list_all, list_any}
-use Rattle.sheets.specs.Sheets.{width, has, Part, Within, Full, Subset}
+use Rattle.sheets.specs.Sheets.{width, has, Part, Within, Full, Subset, within_count}
 use Rattle.sheets.specs.Judging.{JudgeLaws}
 use Rattle.sheets.specs.laws.Bits.{has_and, same_marks, below_marks}
 use Rattle.sheets.specs.laws.Parts.{apart_from_and, and_from_apart, within_itself, within_full}
-use Rattle.conducts.specs.Tables.{is_below, lies_within, table_of}
+use Rattle.orders_tests.specs.Tables.{lies_within, table_of}
 
 -- ---- lying within, as a test
 
@@ -40,10 +40,10 @@ within p a z word t =
 
 -- ---- listed sheets
 
-listed_below : (count z : ℕ) (zs : List ℕ) → list_all (is_below count) zs ≡ true → list_any (nat_eq z) zs ≡ true → z < 2 ^ count
+listed_below : (count z : ℕ) (zs : List ℕ) → list_all (within_count count) zs ≡ true → list_any (nat_eq z) zs ≡ true → z < 2 ^ count
 listed_below count z zs h t =
     let (i, y, low, here, same) = Any-from_list_any (nat_eq z) zs t in
-    let below : is_below count y ≡ true = rw here at (AllPass-from_list_all (is_below count) zs h i y low) in
+    let below : within_count count y ≡ true = rw here at (AllPass-from_list_all (within_count count) zs h i y low) in
     let lt = ltb-true y (2 ^ count) below in
     let e = eqb-true z y same in
     omega arith
@@ -54,22 +54,22 @@ listed_lies p a z zs l t =
     list_any-from_Any (lies_within p a) zs (i, y, low, here, ap (lies_within p a) (sym (eqb-true z y same)) ∙ l)
 
 module _ (count : ℕ) (few : count ≤ width) (p a : ℕ) (part : Part p a) (every : Full p a) where
-  word_below : (z : ℕ) → is_below count z ≡ true → z < 2 ^ width
+  word_below : (z : ℕ) → within_count count z ≡ true → z < 2 ^ width
   word_below z t =
       let wide : 2 ^ count ≤ 2 ^ width = pow_mono {i = count} {j = width} few in
       let lt = ltb-true z (2 ^ count) t in
       omega arith
 
-  full_listed : (zs : List ℕ) → list_all (is_below count) zs ≡ true → list_any (lies_within p a) zs ≡ true → list_any (nat_eq p) zs ≡ true
+  full_listed : (zs : List ℕ) → list_all (within_count count) zs ≡ true → list_any (lies_within p a) zs ≡ true → list_any (nat_eq p) zs ≡ true
   full_listed zs h t =
       let (i, y, low, here, lies) = Any-from_list_any (lies_within p a) zs t in
-      let below : is_below count y ≡ true = rw here at (AllPass-from_list_all (is_below count) zs h i y low) in
+      let below : within_count count y ≡ true = rw here at (AllPass-from_list_all (within_count count) zs h i y low) in
       let same = within_full p a part every y (within p a y (word_below y below) lies) in
       list_any-from_Any (nat_eq p) zs (i, y, low, here, eq-eqb p y (sym same))
 
 -- ---- the laws
 
-module _ (count : ℕ) (zs : List ℕ) (some : 1 ≤ count) (few : count ≤ width) (below : list_all (is_below count) zs ≡ true) where
+module _ (count : ℕ) (zs : List ℕ) (some : 1 ≤ count) (few : count ≤ width) (below : list_all (within_count count) zs ≡ true) where
   table_sound : (p a z : ℕ) → Part p a → (table_of count zs).dead p a ≡ true → Within p a z → (table_of count zs).allows z → ⊥
   table_sound p a z part dead w al =
       let one = list_any (lies_within p a) zs in

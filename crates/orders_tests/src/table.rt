@@ -1,9 +1,9 @@
 // A judge that allows by a table.
 ghost use Rattle.std.specs.Prelude.{◌≡◌, ◌≤◌, true, MatchOption};
 ghost use Rattle.std.specs.List.{list_all, list_any};
-ghost use Rattle.sheets.specs.Sheets.{width};
-ghost use Rattle.conducts.specs.Tables.{is_below, lies_within, table_of};
-ghost use Rattle.conducts.specs.laws.Listed.{table_laws};
+ghost use Rattle.sheets.specs.Sheets.{width, within_count};
+ghost use Rattle.orders_tests.specs.Tables.{lies_within, table_of};
+ghost use Rattle.orders_tests.specs.laws.Listed.{table_laws};
 
 use anyhow::Context;
 use sheets::{Judge, PartSheet, Sheet, WIDTH, within_count};
@@ -16,13 +16,13 @@ pub struct Table {
     listed: Vec<Sheet>,
     ghost some: { 1 ≤ count },
     ghost few: { count ≤ width },
-    ghost inside: { list_all (is_below count) listed.items ≡ true },
+    ghost inside: { list_all (within_count count) listed.items ≡ true },
 }
 
 impl Table {
     // None where the count is not from 1 to `WIDTH`, or a sheet has a mark that is not below it.
     pub fn new(count: u8, listed: Vec<Sheet>) -> Option<Table>
-        ensures { MatchOption result ((1 ≤ count) → (count ≤ width) → list_all (is_below count) listed.items ≡ true → ⊥) (λ table. (table.count ≡ count) × (table.listed ≡ listed)) }
+        ensures { MatchOption result ((1 ≤ count) → (count ≤ width) → list_all (within_count count) listed.items ≡ true → ⊥) (λ table. (table.count ≡ count) × (table.listed ≡ listed)) }
     {
         if (1..=WIDTH).contains(&count) && are_below(listed.as_slice(), count) {
             Some(Table { count, listed })
@@ -39,7 +39,7 @@ pub fn table_of(heap: Global, count: u8, listed: &[Sheet]) -> anyhow::Result<Tab
 
 // Each of the sheets has only marks below the count.
 fn are_below(listed: &[Sheet], count: u8) -> bool
-    ensures { result ≡ list_all (is_below count) listed.now }
+    ensures { result ≡ list_all (within_count count) listed.now }
 {
     listed.iter().all(|sheet| within_count(*sheet, count))
 }

@@ -1,7 +1,7 @@
 use Rattle.std.proofs.Common.{◌≡◌, vec_items, vec_capacity}
 use Rattle.orders.specs.Turns.{state_of, judge_of, scale_of}
 use Rattle.orders.proofs.Conducted.{Along}
-use Rattle.orders.proofs.logs.conduct.Given as goal
+use Rattle.orders.proofs.conducting.conduct.Given as goal
 
 -- the calls so far were answered, and led to the order
 abbrev pub invariant-loop-call : goal.invariant-loop-call

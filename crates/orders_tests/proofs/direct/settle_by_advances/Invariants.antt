@@ -1,5 +1,5 @@
 use Rattle.std.proofs.Common.{◌≡◌}
-use Rattle.conducts.proofs.direct.settle_by_advances.Given as goal
+use Rattle.orders_tests.proofs.direct.settle_by_advances.Given as goal
 
 -- the acts, the judge and the scale are those that the search began with
 abbrev pub invariant-loop : goal.invariant-loop

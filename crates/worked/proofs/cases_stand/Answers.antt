@@ -1,5 +1,0 @@
-use Rattle.worked.proofs.Tries.{cases}
-use Rattle.worked.proofs.cases_stand.Goals as goal
-
-pub returns : goal.returns
-returns c = cases
