@@ -4,9 +4,9 @@
 mod act_list;
 mod acts;
 mod calls;
+mod conducting;
 mod docket;
 mod layer;
-mod conducting;
 mod marking;
 mod search;
 mod seeking;
@@ -18,8 +18,8 @@ mod turns;
 
 pub use acts::{Act, Refusal};
 pub use calls::{Answer, Call, Event, Progress};
-pub use layer::Acts;
 pub use conducting::conduct;
+pub use layer::Acts;
 pub use marking::Marking;
 pub use seeking::Seeking;
 pub use settled::Settled;

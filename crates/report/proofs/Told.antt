@@ -150,8 +150,7 @@ answer_told f (Some z) = refl
 report_told : (f : FileModel) (text : List ℕ) → IsOrderText (judge_of f) (scale_of f) f.acts text → IsReport (Ok f) text
 report_told f text told =
     let same : min f.count f.count ≡ f.count = omega arith in
-    let acts : List Call = map call_of f.acts in
-    (
+    let acts : List Call = map call_of f.acts in (
       told.held,
       subst (λ (m : ℕ). Best (under (judge_of f) (docket m acts)) (scale_of f) (priced (scale_of f) told.held)) same told.best,
       told.lines ∙ ap₂ (λ (m : ℕ) (line : List ℕ). act_lines m [] f.acts ++ line) same (answer_told f told.held),
