@@ -118,7 +118,7 @@ pub record Adds (f : FileModel) (rs : List RecordBytes) (g : FileModel) : Type 0
   pub count : f.count ≡ g.count
   pub house : f.house ≡ g.house
   pub only : AllByRecursion (λ (r : RecordBytes). little r.kind ≡ 1 → ⊥) rs
-  pub order : map Ok f.order ++ map (λ (r : RecordBytes). kind_of (little r.kind)) rs ≡ map Ok g.order
+  pub kinds : map Ok f.kinds ++ map (λ (r : RecordBytes). kind_of (little r.kind)) rs ≡ map Ok g.kinds
   pub rules : map (λ x. took x []) f.rules ++ map (rule_body f.count) (bodies_of 2 rs) ≡ map (λ x. took x []) g.rules
   pub clauses : map (λ x. took x []) f.clauses ++ map (clause_body f.count) (bodies_of 3 rs) ≡ map (λ x. took x []) g.clauses
   pub wishes : map (λ x. took x []) f.wishes ++ map (wish_body f.count) (bodies_of 4 rs) ≡ map (λ x. took x []) g.wishes
@@ -129,7 +129,7 @@ adds_none f = record {
   count = refl;
   house = refl;
   only = tt;
-  order = append-nil _;
+  kinds = append-nil _;
   rules = append-nil _;
   clauses = append-nil _;
   wishes = append-nil _;
@@ -160,7 +160,7 @@ module _ (r : RecordBytes) (rs : List RecordBytes) where
         count = t.count;
         house = t.house;
         only = ((λ one. omega (arith, n, one)), t.only);
-        order = shift Ok f.order Rule (kind_of (little r.kind)) _ e ∙ t.order;
+        kinds = shift Ok f.kinds Rule (kind_of (little r.kind)) _ e ∙ t.kinds;
         rules = one_more (rule_body f.count) 2 f.rules h.rules a.item n a.says t.rules;
         clauses = no_more (clause_body f.count) 3 2 _ _ n refl t.clauses;
         wishes = no_more (wish_body f.count) 4 2 _ _ n refl t.wishes;
@@ -173,7 +173,7 @@ module _ (r : RecordBytes) (rs : List RecordBytes) where
         count = t.count;
         house = t.house;
         only = ((λ one. omega (arith, n, one)), t.only);
-        order = shift Ok f.order Clause (kind_of (little r.kind)) _ e ∙ t.order;
+        kinds = shift Ok f.kinds Clause (kind_of (little r.kind)) _ e ∙ t.kinds;
         rules = no_more (rule_body f.count) 2 3 _ _ n refl t.rules;
         clauses = one_more (clause_body f.count) 3 f.clauses h.clauses a.item n a.says t.clauses;
         wishes = no_more (wish_body f.count) 4 3 _ _ n refl t.wishes;
@@ -186,7 +186,7 @@ module _ (r : RecordBytes) (rs : List RecordBytes) where
         count = t.count;
         house = t.house;
         only = ((λ one. omega (arith, n, one)), t.only);
-        order = shift Ok f.order Wish (kind_of (little r.kind)) _ e ∙ t.order;
+        kinds = shift Ok f.kinds Wish (kind_of (little r.kind)) _ e ∙ t.kinds;
         rules = no_more (rule_body f.count) 2 4 _ _ n refl t.rules;
         clauses = no_more (clause_body f.count) 3 4 _ _ n refl t.clauses;
         wishes = one_more (wish_body f.count) 4 f.wishes h.wishes a.item n a.says t.wishes;
@@ -199,7 +199,7 @@ module _ (r : RecordBytes) (rs : List RecordBytes) where
         count = t.count;
         house = t.house;
         only = ((λ one. omega (arith, n, one)), t.only);
-        order = shift Ok f.order ActKind (kind_of (little r.kind)) _ e ∙ t.order;
+        kinds = shift Ok f.kinds ActKind (kind_of (little r.kind)) _ e ∙ t.kinds;
         rules = no_more (rule_body f.count) 2 5 _ _ n refl t.rules;
         clauses = no_more (clause_body f.count) 3 5 _ _ n refl t.clauses;
         wishes = no_more (wish_body f.count) 4 5 _ _ n refl t.wishes;
@@ -359,7 +359,7 @@ made_of {h} bs rest r f short front framed kind says s =
       clauses = subst (λ n. Say (clause_body n) (bodies_of 3 s.parts) f.clauses) t.count t.clauses;
       wishes = subst (λ n. Say (wish_body n) (bodies_of 4 s.parts) f.wishes) t.count t.wishes;
       acts = t.acts;
-      order = t.order;
+      kinds = t.kinds;
       fits = s.fits;
       house = below_marks f.count f.house s.fits.house;
     }

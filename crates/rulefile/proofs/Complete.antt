@@ -99,7 +99,7 @@ unfolding later
 later_is g n k bs e h = rw e h
 
 module _ (g f : FileModel) (r : RecordBytes) (rs : List RecordBytes) (a : Adds g (r ∷ rs) f) (fits : Fits f) where
-  next : (k : Kind) → kind_of (little r.kind) ≡ Ok k → map Ok (g.order ++ k ∷ []) ++ map (λ (q : RecordBytes). kind_of (little q.kind)) rs ≡ map Ok f.order → Next g r rs f
+  next : (k : Kind) → kind_of (little r.kind) ≡ Ok k → map Ok (g.kinds ++ k ∷ []) ++ map (λ (q : RecordBytes). kind_of (little q.kind)) rs ≡ map Ok f.kinds → Next g r rs f
   unfolding later_body
   next Head e o = absurd (a.only.0 (kind_number (little r.kind) Head e))
   next Rule e o =
@@ -113,7 +113,7 @@ module _ (g f : FileModel) (r : RecordBytes) (rs : List RecordBytes) (a : Adds g
           count = a.count;
           house = a.house;
           only = a.only.1;
-          order = o;
+          kinds = o;
           rules = x.2;
           clauses = rw n at a.clauses;
           wishes = rw n at a.wishes;
@@ -131,7 +131,7 @@ module _ (g f : FileModel) (r : RecordBytes) (rs : List RecordBytes) (a : Adds g
           count = a.count;
           house = a.house;
           only = a.only.1;
-          order = o;
+          kinds = o;
           rules = rw n at a.rules;
           clauses = x.2;
           wishes = rw n at a.wishes;
@@ -149,7 +149,7 @@ module _ (g f : FileModel) (r : RecordBytes) (rs : List RecordBytes) (a : Adds g
           count = a.count;
           house = a.house;
           only = a.only.1;
-          order = o;
+          kinds = o;
           rules = rw n at a.rules;
           clauses = rw n at a.clauses;
           wishes = x.2;
@@ -167,7 +167,7 @@ module _ (g f : FileModel) (r : RecordBytes) (rs : List RecordBytes) (a : Adds g
           count = a.count;
           house = a.house;
           only = a.only.1;
-          order = o;
+          kinds = o;
           rules = rw n at a.rules;
           clauses = rw n at a.clauses;
           wishes = rw n at a.wishes;
@@ -176,7 +176,7 @@ module _ (g f : FileModel) (r : RecordBytes) (rs : List RecordBytes) (a : Adds g
       }
 
   next_file : Next g r rs f
-  next_file = let k = next_of Ok g.order f.order _ _ a.order in next k.0 k.1 k.2
+  next_file = let k = next_of Ok g.kinds f.kinds _ _ a.kinds in next k.0 k.1 k.2
 
 took_one : {X : Type 0} (x z : X) → took x [] ≡ took z [] → x ≡ z
 took_one x z e = cc
@@ -191,12 +191,12 @@ same_file : (g f : FileModel) → Adds g [] f → g ≡ f
 same_file g f a =
     let count = a.count in
     let house = a.house in
-    let order = same_list known known_one g.order f.order a.order in
+    let kinds = same_list known known_one g.kinds f.kinds a.kinds in
     let rules = same_list (λ x. took x []) took_one g.rules f.rules a.rules in
     let clauses = same_list (λ x. took x []) took_one g.clauses f.clauses a.clauses in
     let wishes = same_list (λ x. took x []) took_one g.wishes f.wishes a.wishes in
     let acts = same_list (λ x. took x []) took_one g.acts f.acts a.acts in
-    rw (count, house, order, rules, clauses, wishes, acts)
+    rw (count, house, kinds, rules, clauses, wishes, acts)
 
 records_of : (rs : List RecordBytes) (n size : ℕ) (g f : FileModel) → AllByRecursion Framed rs → Adds g rs f → Fits f → length (flat_map bytes_of rs) ≤ n → records n size g (flat_map bytes_of rs) ≡ Ok f
 unfolding records
@@ -221,7 +221,7 @@ complete bs f a =
     let b = length-append a.head.body rest in
     let e = ap length a.sequence in
     let begun : Adds (head_alone (f.count, f.house)) a.later f = record
-    { count = refl; house = refl; only = a.only; order = a.order; rules = a.rules; clauses = a.clauses; wishes = a.wishes; acts = a.acts } in
+    { count = refl; house = refl; only = a.only; kinds = a.kinds; rules = a.rules; clauses = a.clauses; wishes = a.wishes; acts = a.acts } in
     decode_first bs rest (head_alone (f.count, f.house)) a.short
     (whole_cut first bs a.head.body rest (little a.head.kind) (ap cut a.sequence ∙ cut_front a.head a.framed.0 rest) (head_is (little a.head.kind) a.head.body (f.count, f.house) a.first a.says))
     ∙ records_of a.later (length bs) (length bs) (head_alone (f.count, f.house)) f a.framed.1 begun a.fits (omega arith)

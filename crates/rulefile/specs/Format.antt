@@ -156,20 +156,20 @@ adding n p put = do
 
 -- a file with nothing but its head
 abbrev pub head_alone : Count × Sheet → FileModel
-head_alone h = record { count = h.0; house = h.1; rules = []; clauses = []; wishes = []; acts = []; order = [] }
+head_alone h = record { count = h.0; house = h.1; rules = []; clauses = []; wishes = []; acts = []; kinds = [] }
 
 -- the file with one more of a kind, behind those that it has
 abbrev pub with_rule : FileModel → RuleModel → FileModel
-with_rule f r = record { count = f.count; house = f.house; rules = f.rules ++ r ∷ []; clauses = f.clauses; wishes = f.wishes; acts = f.acts; order = f.order ++ Rule ∷ [] }
+with_rule f r = record { count = f.count; house = f.house; rules = f.rules ++ r ∷ []; clauses = f.clauses; wishes = f.wishes; acts = f.acts; kinds = f.kinds ++ Rule ∷ [] }
 
 abbrev pub with_clause : FileModel → List Literal → FileModel
-with_clause f k = record { count = f.count; house = f.house; rules = f.rules; clauses = f.clauses ++ k ∷ []; wishes = f.wishes; acts = f.acts; order = f.order ++ Clause ∷ [] }
+with_clause f k = record { count = f.count; house = f.house; rules = f.rules; clauses = f.clauses ++ k ∷ []; wishes = f.wishes; acts = f.acts; kinds = f.kinds ++ Clause ∷ [] }
 
 abbrev pub with_wish : FileModel → WishModel → FileModel
-with_wish f w = record { count = f.count; house = f.house; rules = f.rules; clauses = f.clauses; wishes = f.wishes ++ w ∷ []; acts = f.acts; order = f.order ++ Wish ∷ [] }
+with_wish f w = record { count = f.count; house = f.house; rules = f.rules; clauses = f.clauses; wishes = f.wishes ++ w ∷ []; acts = f.acts; kinds = f.kinds ++ Wish ∷ [] }
 
 abbrev pub with_act : FileModel → Act → FileModel
-with_act f a = record { count = f.count; house = f.house; rules = f.rules; clauses = f.clauses; wishes = f.wishes; acts = f.acts ++ a ∷ []; order = f.order ++ ActKind ∷ [] }
+with_act f a = record { count = f.count; house = f.house; rules = f.rules; clauses = f.clauses; wishes = f.wishes; acts = f.acts ++ a ∷ []; kinds = f.kinds ++ ActKind ∷ [] }
 
 -- the first record, by its kind, from its body: a head
 unfoldable pub first_body : Kind → Parser FileModel

@@ -53,7 +53,7 @@ impl Draft {
             clauses: Vec::new(heap),
             wishes: Vec::new(heap),
             acts: Vec::new(heap),
-            order: Vec::new(heap),
+            kinds: Vec::new(heap),
         }
     }
 
@@ -94,7 +94,7 @@ impl Draft {
             Kind::Wish => add_to(&mut self.wishes, body)?,
             Kind::Act => add_to(&mut self.acts, body)?,
         }
-        self.order.push(kind)?;
+        self.kinds.push(kind)?;
         Ok(())
     }
 
@@ -122,7 +122,7 @@ impl Draft {
             clauses,
             wishes,
             acts,
-            order,
+            kinds,
         } = self;
         RuleFile {
             count,
@@ -131,7 +131,7 @@ impl Draft {
             clauses,
             wishes,
             acts,
-            order,
+            kinds,
         }
     }
 }
