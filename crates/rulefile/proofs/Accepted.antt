@@ -87,9 +87,9 @@ wish_ends : (count : ℕ) → Ends (wish_body count)
 unfolding wish_body
 wish_ends count bs x rest e = wholly_ends (wish_fields count) bs e
 
-act_ends : Ends act_body
+act_ends : (count : ℕ) → Ends (act_body count)
 unfolding act_body
-act_ends bs x rest e = wholly_ends act_fields bs e
+act_ends count bs x rest e = wholly_ends (act_fields count) bs e
 
 head_ends : Ends head_body
 unfolding head_body
@@ -101,7 +101,7 @@ Later f Head body g = ⊥
 Later f Rule body g = Added (length f.rules) (rule_body f.count) (with_rule f) body g
 Later f Clause body g = Added (length f.clauses) (clause_body f.count) (with_clause f) body g
 Later f Wish body g = Added (length f.wishes) (wish_body f.count) (with_wish f) body g
-Later f ActKind body g = Added (length f.acts) act_body (with_act f) body g
+Later f ActKind body g = Added (length f.acts) (act_body f.count) (with_act f) body g
 
 later_took : {g : FileModel} {left : List ℕ} (f : FileModel) (k : Kind) (bs : List ℕ) → later_body f k bs ≡ took g left → Later f k bs g
 unfolding later_body
@@ -109,7 +109,7 @@ later_took f Head bs e = cc
 later_took f Rule bs e = adding_took _ _ _ bs (rule_ends f.count) e
 later_took f Clause bs e = adding_took _ _ _ bs (clause_ends f.count) e
 later_took f Wish bs e = adding_took _ _ _ bs (wish_ends f.count) e
-later_took f ActKind bs e = adding_took _ _ _ bs act_ends e
+later_took f ActKind bs e = adding_took _ _ _ bs (act_ends f.count) e
 
 -- ---- records that follow one another
 
@@ -122,7 +122,7 @@ pub record Adds (f : FileModel) (rs : List RecordBytes) (g : FileModel) : Type 0
   pub rules : map (λ x. took x []) f.rules ++ map (rule_body f.count) (bodies_of 2 rs) ≡ map (λ x. took x []) g.rules
   pub clauses : map (λ x. took x []) f.clauses ++ map (clause_body f.count) (bodies_of 3 rs) ≡ map (λ x. took x []) g.clauses
   pub wishes : map (λ x. took x []) f.wishes ++ map (wish_body f.count) (bodies_of 4 rs) ≡ map (λ x. took x []) g.wishes
-  pub acts : map (λ x. took x []) f.acts ++ map act_body (bodies_of 5 rs) ≡ map (λ x. took x []) g.acts
+  pub acts : map (λ x. took x []) f.acts ++ map (act_body f.count) (bodies_of 5 rs) ≡ map (λ x. took x []) g.acts
 
 adds_none : (f : FileModel) → Adds f [] f
 adds_none f = record {
@@ -164,7 +164,7 @@ module _ (r : RecordBytes) (rs : List RecordBytes) where
         rules = one_more (rule_body f.count) 2 f.rules h.rules a.item n a.says t.rules;
         clauses = no_more (clause_body f.count) 3 2 _ _ n refl t.clauses;
         wishes = no_more (wish_body f.count) 4 2 _ _ n refl t.wishes;
-        acts = no_more (act_body) 5 2 _ _ n refl t.acts;
+        acts = no_more (act_body f.count) 5 2 _ _ n refl t.acts;
       }
   adds_more {h} f g Clause e a s =
       let n = kind_number (little r.kind) Clause e in
@@ -177,7 +177,7 @@ module _ (r : RecordBytes) (rs : List RecordBytes) where
         rules = no_more (rule_body f.count) 2 3 _ _ n refl t.rules;
         clauses = one_more (clause_body f.count) 3 f.clauses h.clauses a.item n a.says t.clauses;
         wishes = no_more (wish_body f.count) 4 3 _ _ n refl t.wishes;
-        acts = no_more (act_body) 5 3 _ _ n refl t.acts;
+        acts = no_more (act_body f.count) 5 3 _ _ n refl t.acts;
       }
   adds_more {h} f g Wish e a s =
       let n = kind_number (little r.kind) Wish e in
@@ -190,7 +190,7 @@ module _ (r : RecordBytes) (rs : List RecordBytes) where
         rules = no_more (rule_body f.count) 2 4 _ _ n refl t.rules;
         clauses = no_more (clause_body f.count) 3 4 _ _ n refl t.clauses;
         wishes = one_more (wish_body f.count) 4 f.wishes h.wishes a.item n a.says t.wishes;
-        acts = no_more (act_body) 5 4 _ _ n refl t.acts;
+        acts = no_more (act_body f.count) 5 4 _ _ n refl t.acts;
       }
   adds_more {h} f g ActKind e a s =
       let n = kind_number (little r.kind) ActKind e in
@@ -203,7 +203,7 @@ module _ (r : RecordBytes) (rs : List RecordBytes) where
         rules = no_more (rule_body f.count) 2 5 _ _ n refl t.rules;
         clauses = no_more (clause_body f.count) 3 5 _ _ n refl t.clauses;
         wishes = no_more (wish_body f.count) 4 5 _ _ n refl t.wishes;
-        acts = one_more (act_body) 5 f.acts h.acts a.item n a.says t.acts;
+        acts = one_more (act_body f.count) 5 f.acts h.acts a.item n a.says t.acts;
       }
 
 -- ---- limits
@@ -358,7 +358,7 @@ made_of {h} bs rest r f short front framed kind says s =
       rules = subst (λ n. Say (rule_body n) (bodies_of 2 s.parts) f.rules) t.count t.rules;
       clauses = subst (λ n. Say (clause_body n) (bodies_of 3 s.parts) f.clauses) t.count t.clauses;
       wishes = subst (λ n. Say (wish_body n) (bodies_of 4 s.parts) f.wishes) t.count t.wishes;
-      acts = t.acts;
+      acts = subst (λ n. Say (act_body n) (bodies_of 5 s.parts) f.acts) t.count t.acts;
       kinds = t.kinds;
       fits = s.fits;
       house = below_marks f.count f.house s.fits.house;

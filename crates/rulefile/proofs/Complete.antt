@@ -158,7 +158,7 @@ module _ (g f : FileModel) (r : RecordBytes) (rs : List RecordBytes) (a : Adds g
       }
   next ActKind e o =
       let n = kind_number (little r.kind) ActKind e in
-      let here : map (λ x. took x []) g.acts ++ (act_body) r.body ∷ map (act_body) (bodies_of 5 rs) ≡ map (λ x. took x []) f.acts = rw n at a.acts in
+      let here : map (λ x. took x []) g.acts ++ (act_body g.count) r.body ∷ map (act_body g.count) (bodies_of 5 rs) ≡ map (λ x. took x []) f.acts = rw n at a.acts in
       let x = next_of (λ x. took x []) g.acts f.acts _ _ here in
       record {
         file = with_act g x.0;

@@ -182,7 +182,7 @@ gives_head_fields : (bs : List ℕ) → Gives HeadFits (head_fields bs)
 unfolding head_fields
 gives_head_fields bs =
     gives_after (λ n. (1 ≤ n) × (n ≤ width)) HeadFits (within 1 width bs) _ (gives_within 1 width bs) (λ count r c.
-    gives_then HeadFits (sheet_field r) _ (λ house r. gives_check HeadFits (ltb house (2 ^ count)) MarkRange r _ (λ t _ r. (c.0, c.1, ltb-true house (2 ^ count) t))))
+    gives_then HeadFits (sheet_field count r) _ (λ house r. gives_check HeadFits (ltb house (2 ^ count)) MarkRange r _ (λ t _ r. (c.0, c.1, ltb-true house (2 ^ count) t))))
 
 pub gives_head : (bs : List ℕ) → Gives HeadFits (head_body bs)
 unfolding head_body

@@ -53,17 +53,21 @@ signed_field = do
   n ← field 2
   pure (signed n)
 
--- eight bytes, bit i for mark i
-abbrev pub sheet_field : Parser Sheet
-sheet_field = field 8
+-- how many bytes a sheet field has, by the count: eight, whatever it is
+abbrev pub sheet_length : Count → ℕ
+sheet_length count = 8
+
+-- so many bytes, bit i for mark i
+abbrev pub sheet_field : Count → Parser Sheet
+sheet_field count = field (sheet_length count)
 
 -- ---- bodies, by kind: the fields in their order, and no byte after them
 
--- kind 1: the count of marks, and the house sheet
+-- kind 1: the count of marks, and the house sheet, whose length is by this count
 unfoldable pub head_fields : Parser (Count × Sheet)
 head_fields = do
   count ← within 1 width
-  house ← sheet_field
+  house ← sheet_field count
   check (nat_lt house (2 ^ count)) MarkRange
   pure (count, house)
 
@@ -108,20 +112,20 @@ unfoldable pub wish_body : Count → Parser WishModel
 wish_body count = wholly (wish_fields count)
 
 -- an act by its code, from 1 to 4
-unfoldable pub act_of : ℕ → Parser Act
-act_of code =
+unfoldable pub act_of : Count → ℕ → Parser Act
+act_of count code =
     cond (code == 1) (field 1 >>= λ m. pure (Pin m))
     (cond (code == 2) (field 1 >>= λ m. pure (Bar m))
-    (cond (code == 3) (sheet_field >>= λ s. pure (Strike s))
+    (cond (code == 3) (sheet_field count >>= λ s. pure (Strike s))
     (pure Undo)))
 
 -- kind 5: the code, and its mark or sheet
-unfoldable pub act_fields : Parser Act
-act_fields = within 1 4 >>= act_of
+unfoldable pub act_fields : Count → Parser Act
+act_fields count = within 1 4 >>= act_of count
 
 -- the same, to the last byte of the body
-unfoldable pub act_body : Parser Act
-act_body = wholly act_fields
+unfoldable pub act_body : Count → Parser Act
+act_body count = wholly (act_fields count)
 
 -- ---- records
 
@@ -187,7 +191,7 @@ later_body f Head = refuse HeadMisplaced
 later_body f Rule = adding (length f.rules) (rule_body f.count) (with_rule f)
 later_body f Clause = adding (length f.clauses) (clause_body f.count) (with_clause f)
 later_body f Wish = adding (length f.wishes) (wish_body f.count) (with_wish f)
-later_body f ActKind = adding (length f.acts) act_body (with_act f)
+later_body f ActKind = adding (length f.acts) (act_body f.count) (with_act f)
 
 -- the first record, by the number of its kind
 unfoldable pub first : ℕ → Parser FileModel

@@ -83,7 +83,7 @@ pub record Accepted (bytes : List ℕ) (f : FileModel) : Type 0 where
   pub rules : Say (rule_body f.count) (bodies_of 2 later) f.rules
   pub clauses : Say (clause_body f.count) (bodies_of 3 later) f.clauses
   pub wishes : Say (wish_body f.count) (bodies_of 4 later) f.wishes
-  pub acts : Say act_body (bodies_of 5 later) f.acts
+  pub acts : Say (act_body f.count) (bodies_of 5 later) f.acts
   pub kinds : map (λ r. kind_of (little r.kind)) later ≡ map Ok f.kinds
   -- each number and mark keeps its limit
   pub fits : Fits f

@@ -1,13 +1,13 @@
 // The fields of a record's body, read one after another.
-ghost use Rattle.std.specs.Prelude.{◌≡◌, ◌≤◌, ℕ, List, [], map, vec_items};
+ghost use Rattle.std.specs.Prelude.{◌≡◌, ◌≤◌, ℕ, List, [], length, map, vec_items};
 ghost use Rattle.sheets.specs.Sheets.{width};
 ghost use Rattle.sheets.specs.declared.literals.Literal.{Literal};
 ghost use Rattle.rulefile.specs.Ranges.{is_weight};
 ghost use Rattle.rulefile.specs.declared.constraints.Element.{Element};
 ghost use Rattle.rulefile.specs.declared.records.Act.{Act};
 ghost use Rattle.rulefile.specs.Model.{ConstraintModel, RuleModel, WishModel, constraint_of, rule_of, clause_of, wish_of};
-ghost use Rattle.rulefile.specs.Parser.{Parser, bytes as bytes_spec, within as within_spec, times, end as end_spec, wholly, parsed};
-ghost use Rattle.rulefile.specs.Format.{literal as literal_spec, element as element_spec, constraint as constraint_spec, high_of, act_fields, head_fields, rule_fields, clause_fields, wish_fields};
+ghost use Rattle.rulefile.specs.Parser.{Parser, little, bytes as bytes_spec, within as within_spec, times, end as end_spec, wholly, parsed};
+ghost use Rattle.rulefile.specs.Format.{literal as literal_spec, element as element_spec, constraint as constraint_spec, high_of, sheet_length, sheet_field, act_fields, head_fields, rule_fields, clause_fields, wish_fields};
 ghost use Rattle.rulefile.specs.Answers.{Parses};
 
 use crate::constraints::{Constraint, Element};
@@ -15,11 +15,28 @@ use crate::records::{Act, Clause, Head, Rule};
 use crate::refusals::{Fault, Refusal};
 use crate::uniform::Uniform;
 use crate::wishes::Wish;
-use sheets::{Literal, LiteralSet, WIDTH, within_count};
+use sheets::{Literal, LiteralSet, Sheet, WIDTH, within_count};
 use std::alloc::Global;
 
 // Stands for no high bound.
 const NO_HIGH: u32 = 4_294_967_295;
+
+// How many bytes a sheet field has where there are so many marks. All that read one ask here.
+fn sheet_length(_count: u8) -> usize
+    ensures { result ≡ sheet_length _count }
+{
+    8
+}
+
+// The sheet of at most eight bytes, the lowest first.
+fn sheet_of(bytes: &[u8]) -> Sheet
+    requires { length bytes.now ≤ 8 }
+    ensures { result ≡ little bytes.now }
+{
+    let mut word = [0; 8];
+    word[..bytes.len()].copy_from_slice(bytes);
+    Sheet::from_le_bytes(word)
+}
 
 // What is left of a body whose marks are below `count`, and the memory for what is read of it.
 #[derive(Drop)]
@@ -58,6 +75,19 @@ impl<'a> Body<'a> {
         };
         self.rest = rest;
         Ok(*bytes)
+    }
+
+    // A sheet of marks below the count, which is an argument since a head says it.
+    #[tactic(auto, unfolding(crate::specs::Parser::field))]
+    fn sheet(&mut self, count: u8) -> Result<Sheet, Refusal>
+        ensures parses { sheet_field count self.old.rest.now ≡ parsed result self.new.rest.now }
+        ensures kept { self.new.count ≡ self.old.count }
+    {
+        let Some((bytes, rest)) = self.rest.split_at_checked(sheet_length(count)) else {
+            return Err(Refusal::BodyLength);
+        };
+        self.rest = rest;
+        Ok(sheet_of(bytes))
     }
 
     // A one-byte number from `low` to `high`.
@@ -173,7 +203,7 @@ fn high_of(top: u32) -> Option<u32>
     if top == NO_HIGH { None } else { Some(top) }
 }
 
-#[tactic(auto, using(crate::proofs::Fields::little_of_8), unfolding(crate::specs::Format::head_fields, crate::specs::Parser::field))]
+#[tactic(auto, unfolding(crate::specs::Format::head_fields))]
 impl Field for Head {
     ghost Meaning = { ℕ × ℕ };
 
@@ -183,7 +213,7 @@ impl Field for Head {
 
     fn read(body: &mut Body<'_>) -> Result<Head, Fault> {
         let count = body.within(1, WIDTH)?;
-        let house = u64::from_le_bytes(body.bytes()?);
+        let house = body.sheet(count)?;
         if !within_count(house, count) {
             return Err(Fault::Bad(Refusal::MarkRange));
         }
@@ -259,13 +289,13 @@ impl Field for Wish {
     }
 }
 
-#[tactic(auto, using(crate::proofs::Fields::little_of_1, crate::proofs::Fields::little_of_8), unfolding(crate::specs::Format::act_fields, crate::specs::Parser::field, crate::specs::Format::act_of))]
+#[tactic(auto, using(crate::proofs::Fields::little_of_1), unfolding(crate::specs::Format::act_fields, crate::specs::Parser::field, crate::specs::Format::act_of))]
 impl Field for Act {
     ghost Meaning = { Act };
 
     ghost meaning = { λ a. a };
 
-    ghost parser = { λ _. act_fields };
+    ghost parser = { act_fields };
 
     fn read(body: &mut Body<'_>) -> Result<Act, Fault> {
         // The number goes no further, so no enum is made of it.
@@ -279,7 +309,7 @@ impl Field for Act {
                 let [mark] = body.bytes::<1>()?;
                 Ok(Act::Bar(mark))
             }
-            3 => Ok(Act::Strike(u64::from_le_bytes(body.bytes()?))),
+            3 => Ok(Act::Strike(body.sheet(body.count)?)),
             _ => Ok(Act::Undo),
         }
     }
