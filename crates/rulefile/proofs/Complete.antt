@@ -15,6 +15,7 @@ use Rattle.rulefile.specs.Format.{head_body, rule_body, clause_body, wish_body, 
 use Rattle.rulefile.specs.Answers.{file_of, Reads}
 use Rattle.rulefile.specs.Reading.{Reading}
 use Rattle.rulefile.specs.Laws.{RecordBytes, bytes_of, Framed, bodies_of, Fits, Accepted}
+use Rattle.rulefile.specs.Ranges.{least_length, most_length}
 use Rattle.rulefile.proofs.Frames.{cut_made}
 use Rattle.rulefile.proofs.Drafts.{adding_made, whole_cut, decode_first, records_more}
 use Rattle.rulefile.proofs.Accepted.{kind_number, Adds, accepted}
@@ -46,7 +47,7 @@ module _ (r : RecordBytes) (framed : Framed r) (rest : List ℕ) where
       cut_made whole (r.body ++ rest) r.body rest n (little r.kind)
       (omega (arith, long))
       (ap little (ap (take 4) parts ∙ take_at r.size (r.kind ++ (r.body ++ rest)) 4 framed.four))
-      (and_from (leb 2 n) (leb n 1024) (le-leb 2 n (omega (arith, framed.counts, framed.two))) (le-leb n 1024 framed.most))
+      (and_from (leb least_length n) (leb n most_length) (le-leb least_length n (omega (arith, framed.counts, framed.two))) (le-leb n most_length framed.most))
       tail
       (omega arith)
       (ap (λ xs. little (take 2 xs)) (ap (drop 4) parts ∙ drop_at r.size (r.kind ++ (r.body ++ rest)) 4 framed.four) ∙ ap little (take_at r.kind (r.body ++ rest) 2 framed.two))

@@ -7,6 +7,7 @@ use Rattle.std.proofs.lemmas.Bool.{leb-true, le-leb}
 use Rattle.sheets.specs.Sheets.{width}
 use Rattle.sheets.specs.declared.literals.Literal.{Literal}
 use Rattle.rulefile.specs.declared.constraints.Element.{Element}
+use Rattle.rulefile.specs.Ranges.{most_of_kind}
 use Rattle.rulefile.specs.Model.{ConstraintModel, RuleModel, WishModel, FileModel}
 use Rattle.rulefile.specs.Limits.{literals_below, constraint_below, rule_below, is_few, is_fit}
 use Rattle.rulefile.specs.Laws.{LiteralsBelow, ConstraintBelow, RuleBelow, Fits}
@@ -26,8 +27,8 @@ constraint n k = decides_all (λ (e : Element). ltb e.literal.mark n) (λ (e : E
 rule : (n : ℕ) (r : RuleModel) → Decides (rule_below n r) (RuleBelow n r)
 rule n r = Decides-and _ _ (constraint n r.head) (decides_all (constraint_below n) (ConstraintBelow n) (constraint n) r.body)
 
-few : {A : Type 0} (xs : List A) → Decides (is_few xs) (length xs ≤ 256)
-few xs = decides_leb (length xs) 256
+few : {A : Type 0} (xs : List A) → Decides (is_few xs) (length xs ≤ most_of_kind)
+few xs = decides_leb (length xs) most_of_kind
 
 -- the test passes exactly where the limits are kept
 pub decides_fit : (f : FileModel) → Decides (is_fit f) (Fits f)

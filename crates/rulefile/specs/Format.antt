@@ -1,5 +1,5 @@
 -- The meaning of a rule file.
-use Rattle.std.specs.Prelude.{ℕ, zero, suc, ◌-◌, ◌%◌, ◌^◌, cond, ◌&&◌, List, [], ◌∷◌, ◌++◌, length, take, drop, ℤ, pos, negsuc, Some, None, Ok, Err, Option, Result, ◌==◌, nat_le, nat_lt}
+use Rattle.std.specs.Prelude.{ℕ, zero, suc, ◌-◌, ◌%◌, ◌^◌, cond, List, [], ◌∷◌, ◌++◌, length, take, drop, ℤ, pos, negsuc, Some, None, Ok, Err, Option, Result, ◌==◌, nat_le, nat_lt}
 use Rattle.sheets.specs.Sheets.{Sheet, Count, width}
 use Rattle.sheets.specs.declared.literals.Literal.{Literal}
 use Rattle.rulefile.specs.declared.refusals.Refusal.{Refusal}
@@ -10,18 +10,19 @@ use Rattle.rulefile.specs.declared.records.Act.{Act}
 use Rattle.rulefile.specs.declared.records.Act.TheVariants.{Pin, Bar, Strike, Undo}
 use Rattle.rulefile.specs.declared.records.Kind.{Kind}
 use Rattle.rulefile.specs.declared.records.Kind.TheVariants.{Head, Rule, Clause, Wish, Act as ActKind}
-use Rattle.rulefile.specs.Ranges.{most_bytes, most_length, most_of_kind, is_weight}
+use Rattle.rulefile.specs.Ranges.{most_bytes, most_of_kind, most_constraints, most_elements, most_clause_literals, most_wish_literals, levels, is_weight, no_high, most_code, not_bit, sheet_bytes, is_length}
+use Rattle.rulefile.specs.Numbers.{kind_number, all_kinds}
 use Rattle.rulefile.specs.Model.{ConstraintModel, RuleModel, WishModel, FileModel}
 use Rattle.rulefile.specs.Parser.{Parse, took, fails, Parser, after, ◌>>=◌, ◌>>◌, pure, refuse, check, parsed, bytes, little, field, within, times, wholly}
 
 -- ---- fields
 
--- a literal byte: the mark in its low seven bits, and 128 is added for "not"
+-- a literal byte: the mark in its low seven bits, and `not_bit` is added for "not"
 unfoldable pub literal : Count → Parser Literal
 literal count = do
   b ← field 1
-  check (nat_lt (b % 128) count) MarkRange
-  pure (record { mark = b % 128; negated = nat_le 128 b })
+  check (nat_lt (b % not_bit) count) MarkRange
+  pure (record { mark = b % not_bit; negated = nat_le not_bit b })
 
 -- a literal byte, and two bytes for its weight
 unfoldable pub element : Count → Parser Element
@@ -30,22 +31,22 @@ element count = do
   w ← field 2
   pure (record { literal = l; weight = w })
 
--- 4,294,967,295 stands for no high bound
+-- the high bound, if there is one
 abbrev pub high_of : ℕ → Option ℕ
-high_of n = cond (n == 4294967295) None (Some n)
+high_of n = cond (n == no_high) None (Some n)
 
 -- the low bound, the high bound, the number of elements, the elements
 unfoldable pub constraint : Count → Parser ConstraintModel
 constraint count = do
   low ← field 4
   high ← field 4
-  n ← within 0 32
+  n ← within 0 most_elements
   es ← times n (element count)
   pure (record { low = low; high = high_of high; elements = es })
 
 -- two bytes as a signed number
 abbrev pub signed : ℕ → ℤ
-signed n = cond (nat_lt n 32768) (pos n) (negsuc (65535 - n))
+signed n = cond (nat_lt n (2 ^ 15)) (pos n) (negsuc (2 ^ 16 - 1 - n))
 
 -- a field of two bytes, read so
 unfoldable pub signed_field : Parser ℤ
@@ -53,9 +54,9 @@ signed_field = do
   n ← field 2
   pure (signed n)
 
--- how many bytes a sheet field has, by the count: eight, whatever it is
+-- how many bytes a sheet field has, by the count: so many, whatever it is
 abbrev pub sheet_length : Count → ℕ
-sheet_length count = 8
+sheet_length count = sheet_bytes
 
 -- so many bytes, bit i for mark i
 abbrev pub sheet_field : Count → Parser Sheet
@@ -78,7 +79,7 @@ head_body = wholly head_fields
 -- kind 2: the number of body constraints, the head constraint, the body constraints
 unfoldable pub rule_fields : Count → Parser RuleModel
 rule_fields count = do
-  n ← within 0 8
+  n ← within 0 most_constraints
   h ← constraint count
   ks ← times n (constraint count)
   pure (record { head = h; body = ks })
@@ -90,7 +91,7 @@ rule_body count = wholly (rule_fields count)
 -- kind 3: the number of literals, the literals
 unfoldable pub clause_fields : Count → Parser (List Literal)
 clause_fields count = do
-  n ← within 0 32
+  n ← within 0 most_clause_literals
   times n (literal count)
 
 -- the same, to the last byte of the body
@@ -100,10 +101,10 @@ clause_body count = wholly (clause_fields count)
 -- kind 4: level, weight, the number of literals, the literals
 unfoldable pub wish_fields : Count → Parser WishModel
 wish_fields count = do
-  level ← within 1 8
+  level ← within 1 levels
   w ← signed_field
   check (is_weight w) OutOfRange
-  n ← within 1 16
+  n ← within 1 most_wish_literals
   ls ← times n (literal count)
   pure (record { level = level; weight = w; literals = ls })
 
@@ -111,7 +112,7 @@ wish_fields count = do
 unfoldable pub wish_body : Count → Parser WishModel
 wish_body count = wholly (wish_fields count)
 
--- an act by its code, from 1 to 4
+-- an act by its code, from 1 to `most_code`
 unfoldable pub act_of : Count → ℕ → Parser Act
 act_of count code =
     cond (code == 1) (field 1 >>= λ m. pure (Pin m))
@@ -121,7 +122,7 @@ act_of count code =
 
 -- kind 5: the code, and its mark or sheet
 unfoldable pub act_fields : Count → Parser Act
-act_fields count = within 1 4 >>= act_of count
+act_fields count = within 1 most_code >>= act_of count
 
 -- the same, to the last byte of the body
 unfoldable pub act_body : Count → Parser Act
@@ -133,19 +134,18 @@ act_body count = wholly (act_fields count)
 unfoldable pub cut : Parser (ℕ × List ℕ)
 cut = do
   size ← bytes 4 RecordCut
-  check (nat_le 2 (little size) && nat_le (little size) most_length) LengthRange
+  check (is_length (little size)) LengthRange
   block ← bytes (little size) LengthPastEnd
   pure (little (take 2 block), drop 2 block)
 
--- the kind of a number, from 1 to 5
+-- the first of the kinds that has the number
+abbrev pub numbered : List Kind → ℕ → Result Kind Refusal
+numbered [] n = Err UnknownKind
+numbered (k ∷ ks) n = cond (n == kind_number k) (Ok k) (numbered ks n)
+
+-- the kind of a number
 abbrev pub kind_of : ℕ → Result Kind Refusal
-kind_of n =
-    cond (n == 1) (Ok Head)
-    (cond (n == 2) (Ok Rule)
-    (cond (n == 3) (Ok Clause)
-    (cond (n == 4) (Ok Wish)
-    (cond (n == 5) (Ok ActKind)
-    (Err UnknownKind)))))
+kind_of = numbered all_kinds
 
 -- where n of a kind are read, one more may be, up to `most_of_kind`
 abbrev pub room_at : ℕ → Result (Unit {0}) Refusal

@@ -4,6 +4,8 @@ use Rattle.std.specs.List.{flat_map, AllByRecursion}
 use Rattle.sheets.specs.Sheets.{Count, width, MarksBelow}
 use Rattle.sheets.specs.declared.literals.Literal.{Literal}
 use Rattle.rulefile.specs.declared.constraints.Element.{Element}
+use Rattle.rulefile.specs.declared.records.Kind.TheVariants.{Head, Rule, Clause, Wish, Act}
+use Rattle.rulefile.specs.Numbers.{kind_number}
 use Rattle.rulefile.specs.Ranges.{most_bytes, most_length, most_of_kind}
 use Rattle.rulefile.specs.Model.{ConstraintModel, RuleModel, WishModel, FileModel}
 use Rattle.rulefile.specs.Parser.{Parser, took, little}
@@ -31,7 +33,7 @@ abbrev pub lengths : List RecordBytes → ℕ
 lengths [] = 0
 lengths (r ∷ rs) = 4 + little r.size + lengths rs
 
--- the bodies of the records of kind k, in file order
+-- the bodies of the records whose kind has the number k, in file order
 abbrev pub bodies_of : ℕ → List RecordBytes → List (List ℕ)
 bodies_of k [] = []
 bodies_of k (r ∷ rs) = cond (little r.kind == k) (r.body ∷ bodies_of k rs) (bodies_of k rs)
@@ -76,14 +78,14 @@ pub record Accepted (bytes : List ℕ) (f : FileModel) : Type 0 where
   pub adds_up : length bytes ≡ lengths (head ∷ later)
   pub short : length bytes ≤ most_bytes
   -- the first record is the head, and no other is
-  pub first : little head.kind ≡ 1
-  pub only : AllByRecursion (λ r. little r.kind ≢ 1) later
+  pub first : little head.kind ≡ kind_number Head
+  pub only : AllByRecursion (λ r. little r.kind ≢ kind_number Head) later
   -- each record says its part, and the parts of a kind come in file order
   pub says : head_body head.body ≡ took (f.count, f.house) []
-  pub rules : Say (rule_body f.count) (bodies_of 2 later) f.rules
-  pub clauses : Say (clause_body f.count) (bodies_of 3 later) f.clauses
-  pub wishes : Say (wish_body f.count) (bodies_of 4 later) f.wishes
-  pub acts : Say (act_body f.count) (bodies_of 5 later) f.acts
+  pub rules : Say (rule_body f.count) (bodies_of (kind_number Rule) later) f.rules
+  pub clauses : Say (clause_body f.count) (bodies_of (kind_number Clause) later) f.clauses
+  pub wishes : Say (wish_body f.count) (bodies_of (kind_number Wish) later) f.wishes
+  pub acts : Say (act_body f.count) (bodies_of (kind_number Act) later) f.acts
   pub kinds : map (λ r. kind_of (little r.kind)) later ≡ map Ok f.kinds
   -- each number and mark keeps its limit
   pub fits : Fits f

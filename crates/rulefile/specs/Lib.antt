@@ -1,6 +1,6 @@
+pub mod Ranges
 pub mod Numbers
 pub mod Words
-pub mod Ranges
 pub mod Model
 pub mod Uniform
 pub mod Limits

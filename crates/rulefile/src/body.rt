@@ -2,7 +2,7 @@
 ghost use Rattle.std.specs.Prelude.{◌≡◌, ◌≤◌, ℕ, List, [], length, map, vec_items};
 ghost use Rattle.sheets.specs.Sheets.{width};
 ghost use Rattle.sheets.specs.declared.literals.Literal.{Literal};
-ghost use Rattle.rulefile.specs.Ranges.{is_weight};
+ghost use Rattle.rulefile.specs.Ranges.{is_weight, sheet_bytes};
 ghost use Rattle.rulefile.specs.declared.constraints.Element.{Element};
 ghost use Rattle.rulefile.specs.declared.records.Act.{Act};
 ghost use Rattle.rulefile.specs.Model.{ConstraintModel, RuleModel, WishModel, constraint_of, rule_of, clause_of, wish_of};
@@ -11,29 +11,30 @@ ghost use Rattle.rulefile.specs.Format.{literal as literal_spec, element as elem
 ghost use Rattle.rulefile.specs.Answers.{Parses};
 
 use crate::constraints::{Constraint, Element};
+use crate::limits::{
+    LEVELS, MOST_CLAUSE_LITERALS, MOST_CODE, MOST_CONSTRAINTS, MOST_ELEMENTS, MOST_MARKS,
+    MOST_WEIGHT, MOST_WISH_LITERALS, NO_HIGH, NOT, SHEET_BYTES,
+};
 use crate::records::{Act, Clause, Head, Rule};
 use crate::refusals::{Fault, Refusal};
 use crate::uniform::Uniform;
 use crate::wishes::Wish;
-use sheets::{Literal, LiteralSet, Sheet, WIDTH, within_count};
+use sheets::{Literal, LiteralSet, Sheet, within_count};
 use std::alloc::Global;
-
-// Stands for no high bound.
-const NO_HIGH: u32 = 4_294_967_295;
 
 // How many bytes a sheet field has where there are so many marks. All that read one ask here.
 fn sheet_length(_count: u8) -> usize
     ensures { result ≡ sheet_length _count }
 {
-    8
+    SHEET_BYTES
 }
 
-// The sheet of at most eight bytes, the lowest first.
+// The sheet of at most so many bytes, the lowest first.
 fn sheet_of(bytes: &[u8]) -> Sheet
-    requires { length bytes.now ≤ 8 }
+    requires { length bytes.now ≤ sheet_bytes }
     ensures { result ≡ little bytes.now }
 {
-    let mut word = [0; 8];
+    let mut word = [0; SHEET_BYTES];
     word[..bytes.len()].copy_from_slice(bytes);
     Sheet::from_le_bytes(word)
 }
@@ -147,13 +148,13 @@ impl Field for Literal {
 
     fn read(body: &mut Body<'_>) -> Result<Literal, Fault> {
         let [b] = body.bytes::<1>()?;
-        let mark = b % 128;
+        let mark = b % NOT;
         if mark >= body.count {
             return Err(Fault::Bad(Refusal::MarkRange));
         }
         Ok(Literal {
             mark,
-            negated: b >= 128,
+            negated: b >= NOT,
         })
     }
 }
@@ -184,7 +185,7 @@ impl Field for Constraint {
     fn read(body: &mut Body<'_>) -> Result<Constraint, Fault> {
         let low = u32::from_le_bytes(body.bytes()?);
         let top = u32::from_le_bytes(body.bytes()?);
-        let n = body.within(0, 32)?;
+        let n = body.within(0, MOST_ELEMENTS)?;
         let elements: Vec<Element> = body.several(n)?;
         let uniform = Uniform::of(&elements);
         Ok(Constraint {
@@ -212,7 +213,7 @@ impl Field for Head {
     ghost parser = { λ _. head_fields };
 
     fn read(body: &mut Body<'_>) -> Result<Head, Fault> {
-        let count = body.within(1, WIDTH)?;
+        let count = body.within(1, MOST_MARKS)?;
         let house = body.sheet(count)?;
         if !within_count(house, count) {
             return Err(Fault::Bad(Refusal::MarkRange));
@@ -230,7 +231,7 @@ impl Field for Rule {
     ghost parser = { rule_fields };
 
     fn read(body: &mut Body<'_>) -> Result<Rule, Fault> {
-        let n = body.within(0, 8)?;
+        let n = body.within(0, MOST_CONSTRAINTS)?;
         let head = Constraint::read(body)?;
         let constraints = body.several(n)?;
         Ok(Rule {
@@ -249,7 +250,7 @@ impl Field for Clause {
     ghost parser = { clause_fields };
 
     fn read(body: &mut Body<'_>) -> Result<Clause, Fault> {
-        let n = body.within(0, 32)?;
+        let n = body.within(0, MOST_CLAUSE_LITERALS)?;
         let literals: Vec<Literal> = body.several(n)?;
         let set = LiteralSet::of(&literals);
         Ok(Clause { literals, set })
@@ -260,7 +261,7 @@ impl Field for Clause {
 fn weight_fits(weight: i16) -> bool
     ensures { result ≡ is_weight weight }
 {
-    (-10_000..=10_000).contains(&weight)
+    (-MOST_WEIGHT..=MOST_WEIGHT).contains(&weight)
 }
 
 #[tactic(auto, using(crate::proofs::Fields::little_of_2), unfolding(crate::specs::Format::wish_fields, crate::specs::Parser::field, crate::specs::Format::signed_field))]
@@ -272,12 +273,12 @@ impl Field for Wish {
     ghost parser = { wish_fields };
 
     fn read(body: &mut Body<'_>) -> Result<Wish, Fault> {
-        let level = body.within(1, 8)?;
+        let level = body.within(1, LEVELS)?;
         let weight = i16::from_le_bytes(body.bytes()?);
         if !weight_fits(weight) {
             return Err(Fault::Bad(Refusal::OutOfRange));
         }
-        let n = body.within(1, 16)?;
+        let n = body.within(1, MOST_WISH_LITERALS)?;
         let literals: Vec<Literal> = body.several(n)?;
         let set = LiteralSet::of(&literals);
         Ok(Wish {
@@ -299,7 +300,7 @@ impl Field for Act {
 
     fn read(body: &mut Body<'_>) -> Result<Act, Fault> {
         // The number goes no further, so no enum is made of it.
-        let code = body.within(1, 4)?;
+        let code = body.within(1, MOST_CODE)?;
         match code {
             1 => {
                 let [mark] = body.bytes::<1>()?;

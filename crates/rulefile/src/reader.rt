@@ -10,15 +10,10 @@ use crate::body::{Body, Field};
 use crate::draft::Draft;
 use crate::files::RuleFile;
 use crate::frame::cut;
+use crate::limits::{MOST_BYTES, MOST_OF_KIND};
 use crate::records::{Head, Kind};
 use crate::refusals::{Fault, ReadError, Refusal};
 use std::alloc::{AllocError, Global};
-
-// How many bytes a file can have.
-const MOST_BYTES: usize = 32_768;
-
-// How many records of one kind a file can have.
-const MOST_OF_KIND: usize = 256;
 
 // Whether one more of a kind may be read, where `n` are.
 fn room(n: usize) -> Result<(), Refusal>
