@@ -58,7 +58,7 @@ Gives P (fails why) = Unit {0}
 pub given : {A : Type 0} {x : A} {rest : List ℕ} {q : Parse A} (P : A → Type 0) → q ≡ took x rest → Gives P q → P x
 given P e g = subst (Gives P) e g
 
-any : {A : Type 0} (q : Parse A) → Gives (λ _. Unit {0}) q
+pub any : {A : Type 0} (q : Parse A) → Gives (λ _. Unit {0}) q
 any (took x rest) = tt
 any (fails why) = tt
 

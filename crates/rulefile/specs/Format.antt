@@ -1,5 +1,5 @@
 -- The meaning of a rule file.
-use Rattle.std.specs.Prelude.{ℕ, zero, suc, ◌-◌, ◌%◌, ◌^◌, cond, List, [], ◌∷◌, ◌++◌, length, take, drop, ℤ, pos, negsuc, Some, None, Ok, Err, Option, Result, ◌==◌, nat_le, nat_lt}
+use Rattle.std.specs.Prelude.{ℕ, zero, suc, ◌-◌, ◌%◌, ◌^◌, cond, List, [], ◌∷◌, length, take, drop, ℤ, pos, negsuc, Some, None, Ok, Err, Option, Result, ◌==◌, nat_le, nat_lt}
 use Rattle.sheets.specs.Sheets.{Sheet, Count, width}
 use Rattle.sheets.specs.declared.literals.Literal.{Literal}
 use Rattle.rulefile.specs.declared.refusals.Refusal.{Refusal}
@@ -13,6 +13,7 @@ use Rattle.rulefile.specs.declared.records.Kind.TheVariants.{Head, Rule, Clause,
 use Rattle.rulefile.specs.Ranges.{most_bytes, most_of_kind, most_constraints, most_elements, most_clause_literals, most_wish_literals, levels, is_weight, no_high, most_code, not_bit, sheet_bytes, is_length}
 use Rattle.rulefile.specs.Numbers.{kind_number, all_kinds}
 use Rattle.rulefile.specs.Model.{ConstraintModel, RuleModel, WishModel, FileModel}
+use Rattle.rulefile.specs.Lists.{Item, list_of, with_one}
 use Rattle.rulefile.specs.Parser.{Parse, took, fails, Parser, after, ◌>>=◌, ◌>>◌, pure, refuse, check, parsed, bytes, little, field, within, times, wholly}
 
 -- ---- fields
@@ -162,36 +163,25 @@ adding n p put = do
 abbrev pub head_alone : Count × Sheet → FileModel
 head_alone h = record { count = h.0; house = h.1; rules = []; clauses = []; wishes = []; acts = []; kinds = [] }
 
--- the file with one more of a kind, behind those that it has
-abbrev pub with_rule : FileModel → RuleModel → FileModel
-with_rule f r = record { count = f.count; house = f.house; rules = f.rules ++ r ∷ []; clauses = f.clauses; wishes = f.wishes; acts = f.acts; kinds = f.kinds ++ Rule ∷ [] }
-
-abbrev pub with_clause : FileModel → List Literal → FileModel
-with_clause f k = record { count = f.count; house = f.house; rules = f.rules; clauses = f.clauses ++ k ∷ []; wishes = f.wishes; acts = f.acts; kinds = f.kinds ++ Clause ∷ [] }
-
-abbrev pub with_wish : FileModel → WishModel → FileModel
-with_wish f w = record { count = f.count; house = f.house; rules = f.rules; clauses = f.clauses; wishes = f.wishes ++ w ∷ []; acts = f.acts; kinds = f.kinds ++ Wish ∷ [] }
-
-abbrev pub with_act : FileModel → Act → FileModel
-with_act f a = record { count = f.count; house = f.house; rules = f.rules; clauses = f.clauses; wishes = f.wishes; acts = f.acts ++ a ∷ []; kinds = f.kinds ++ ActKind ∷ [] }
-
 -- the first record, by its kind, from its body: a head
 unfoldable pub first_body : Kind → Parser FileModel
 first_body Head = do
   h ← head_body
   pure (head_alone h)
-first_body Rule = refuse HeadMisplaced
-first_body Clause = refuse HeadMisplaced
-first_body Wish = refuse HeadMisplaced
-first_body ActKind = refuse HeadMisplaced
+first_body k = refuse HeadMisplaced
 
--- a later record, by its kind, from its body
+-- the body of a later record, by its kind: a head is refused
+abbrev pub body_of : (k : Kind) → Count → Parser (Item k)
+body_of Head count = refuse HeadMisplaced
+body_of Rule count = rule_body count
+body_of Clause count = clause_body count
+body_of Wish count = wish_body count
+body_of ActKind count = act_body count
+
+-- a later record, by its kind, from its body: one more of this kind, but for a head
 unfoldable pub later_body : FileModel → Kind → Parser FileModel
 later_body f Head = refuse HeadMisplaced
-later_body f Rule = adding (length f.rules) (rule_body f.count) (with_rule f)
-later_body f Clause = adding (length f.clauses) (clause_body f.count) (with_clause f)
-later_body f Wish = adding (length f.wishes) (wish_body f.count) (with_wish f)
-later_body f ActKind = adding (length f.acts) (act_body f.count) (with_act f)
+later_body f k = adding (length (list_of k f)) (body_of k f.count) (with_one k f)
 
 -- the first record, by the number of its kind
 unfoldable pub first : ℕ → Parser FileModel

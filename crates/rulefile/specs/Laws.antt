@@ -4,10 +4,12 @@ use Rattle.std.specs.List.{flat_map, AllByRecursion}
 use Rattle.sheets.specs.Sheets.{Count, width, MarksBelow}
 use Rattle.sheets.specs.declared.literals.Literal.{Literal}
 use Rattle.rulefile.specs.declared.constraints.Element.{Element}
+use Rattle.rulefile.specs.declared.records.Kind.{Kind}
 use Rattle.rulefile.specs.declared.records.Kind.TheVariants.{Head, Rule, Clause, Wish, Act}
 use Rattle.rulefile.specs.Numbers.{kind_number}
 use Rattle.rulefile.specs.Ranges.{most_bytes, most_length, most_of_kind}
 use Rattle.rulefile.specs.Model.{ConstraintModel, RuleModel, WishModel, FileModel}
+use Rattle.rulefile.specs.Lists.{Item}
 use Rattle.rulefile.specs.Parser.{Parser, took, little}
 use Rattle.rulefile.specs.Format.{head_body, rule_body, clause_body, wish_body, act_body, kind_of}
 
@@ -53,6 +55,14 @@ ConstraintBelow n k = AllByRecursion (λ (e : Element). e.literal.mark < n) k.el
 -- every mark of the head and of the body is below n
 abbrev pub RuleBelow : Count → RuleModel → Type 0
 RuleBelow n r = ConstraintBelow n r.head × AllByRecursion (ConstraintBelow n) r.body
+
+-- what is kept of a record, by its kind: its marks are below n; of the marks of acts nothing is said
+abbrev pub ItemBelow : (k : Kind) → Count → Item k → Type 0
+ItemBelow Head n x = ⊥
+ItemBelow Rule n r = RuleBelow n r
+ItemBelow Clause n k = LiteralsBelow n k
+ItemBelow Wish n w = LiteralsBelow n w.literals
+ItemBelow Act n a = Unit {0}
 
 -- the limits of a file: the count is from 1 to the width, the marks of the house sheet, of rules, clauses and wishes are
 -- below it, and there are at most `most_of_kind` of a kind; of the marks of acts nothing is said

@@ -2,6 +2,7 @@ pub mod Ranges
 pub mod Numbers
 pub mod Words
 pub mod Model
+pub mod Lists
 pub mod Uniform
 pub mod Limits
 pub mod Parser
