@@ -8,7 +8,7 @@ use Rattle.sheets.specs.declared.literals.Literal.{Literal}
 use Rattle.rulefile.specs.declared.refusals.Refusal.{Refusal}
 use Rattle.rulefile.specs.declared.refusals.Refusal.TheVariants.{RecordCut, LengthRange, LengthPastEnd, MarkRange, OutOfRange}
 use Rattle.rulefile.specs.declared.constraints.Element.{Element}
-use Rattle.rulefile.specs.Ranges.{least_length, most_length, is_length, most_constraints, most_elements, most_clause_literals, most_wish_literals, levels, is_weight}
+use Rattle.rulefile.specs.Ranges.{least_length, most_length, is_length, most_constraints, most_elements, most_clause_literals, most_wish_literals, top_level, is_weight}
 use Rattle.rulefile.specs.Model.{WishModel}
 use Rattle.rulefile.specs.Parser.{Parse, took, fails, Parser, after, check, bytes, little, field, within, times, end, wholly}
 use Rattle.rulefile.specs.Format.{literal, element, constraint, signed_field, sheet_field, head_fields, head_body, rule_fields, rule_body, clause_fields, clause_body, wish_fields, wish_body, cut}
@@ -167,7 +167,7 @@ unfolding wish_fields
 gives_wish_fields count bs =
     let P = LiteralsBelow count in
     let Q = WishBelow count in
-    gives_then Q (within 1 levels bs) _ (λ level r. gives_then Q (signed_field r) _ (λ w r. gives_then Q (check (is_weight w) OutOfRange r) _ (λ _ r.
+    gives_then Q (within 1 top_level bs) _ (λ level r. gives_then Q (signed_field r) _ (λ w r. gives_then Q (check (is_weight w) OutOfRange r) _ (λ _ r.
     gives_then Q (within 1 most_wish_literals r) _ (λ n r. gives_after P Q (times n (literal count) r) _ (gives_literals count n r) (λ ls _ h. h)))))
 
 pub gives_wish : (count : ℕ) (bs : List ℕ) → Gives (λ (w : WishModel). LiteralsBelow count w.literals) (wish_body count bs)

@@ -10,7 +10,7 @@ use Rattle.rulefile.specs.declared.records.Act.{Act}
 use Rattle.rulefile.specs.declared.records.Act.TheVariants.{Pin, Bar, Strike, Undo}
 use Rattle.rulefile.specs.declared.records.Kind.{Kind}
 use Rattle.rulefile.specs.declared.records.Kind.TheVariants.{Head, Rule, Clause, Wish, Act as ActKind}
-use Rattle.rulefile.specs.Ranges.{most_bytes, most_of_kind, most_constraints, most_elements, most_clause_literals, most_wish_literals, levels, is_weight, no_high, most_code, not_bit, sheet_bytes, is_length}
+use Rattle.rulefile.specs.Ranges.{most_bytes, most_of_kind, most_constraints, most_elements, most_clause_literals, most_wish_literals, top_level, is_weight, no_high, most_code, not_bit, sheet_bytes, is_length}
 use Rattle.rulefile.specs.Numbers.{kind_number, all_kinds}
 use Rattle.rulefile.specs.Model.{ConstraintModel, RuleModel, WishModel, FileModel}
 use Rattle.rulefile.specs.Lists.{Item, list_of, with_one}
@@ -102,7 +102,7 @@ clause_body count = wholly (clause_fields count)
 -- kind 4: level, weight, the number of literals, the literals
 unfoldable pub wish_fields : Count → Parser WishModel
 wish_fields count = do
-  level ← within 1 levels
+  level ← within 1 top_level
   w ← signed_field
   check (is_weight w) OutOfRange
   n ← within 1 most_wish_literals

@@ -33,9 +33,9 @@ most_clause_literals = 32
 abbrev pub most_wish_literals : ℕ
 most_wish_literals = 16
 
--- how many levels there are; they are numbered from 1
-abbrev pub levels : ℕ
-levels = 8
+-- the greatest level of a wish; levels are numbered from 1
+abbrev pub top_level : ℕ
+top_level = 8
 
 -- the greatest weight of a wish; the least is as far below 0
 abbrev pub most_weight : ℕ

@@ -12,8 +12,8 @@ ghost use Rattle.rulefile.specs.Answers.{Parses};
 
 use crate::constraints::{Constraint, Element};
 use crate::limits::{
-    LEVELS, MOST_CLAUSE_LITERALS, MOST_CODE, MOST_CONSTRAINTS, MOST_ELEMENTS, MOST_MARKS,
-    MOST_WEIGHT, MOST_WISH_LITERALS, NO_HIGH, NOT, SHEET_BYTES,
+    MOST_CLAUSE_LITERALS, MOST_CODE, MOST_CONSTRAINTS, MOST_ELEMENTS, MOST_MARKS, MOST_WEIGHT,
+    MOST_WISH_LITERALS, NO_HIGH, NOT, SHEET_BYTES, TOP_LEVEL,
 };
 use crate::records::{Act, Clause, Head, Rule};
 use crate::refusals::{Fault, Refusal};
@@ -273,7 +273,7 @@ impl Field for Wish {
     ghost parser = { wish_fields };
 
     fn read(body: &mut Body<'_>) -> Result<Wish, Fault> {
-        let level = body.within(1, LEVELS)?;
+        let level = body.within(1, TOP_LEVEL)?;
         let weight = i16::from_le_bytes(body.bytes()?);
         if !weight_fits(weight) {
             return Err(Fault::Bad(Refusal::OutOfRange));

@@ -28,8 +28,8 @@ pub const MOST_CLAUSE_LITERALS: u8 = 32;
 // How many literals a wish can have.
 pub const MOST_WISH_LITERALS: u8 = 16;
 
-// How many levels there are; they are numbered from 1.
-pub const LEVELS: u8 = 8;
+// The greatest level of a wish; levels are numbered from 1.
+pub const TOP_LEVEL: u8 = 8;
 
 // The greatest weight of a wish. The least is as far below 0.
 pub const MOST_WEIGHT: i16 = 10_000;

@@ -3,7 +3,7 @@ ghost use Rattle.std.specs.Prelude.{◌≡◌, ◌≤◌, true, vec_len, vec_ite
 ghost use Rattle.std.specs.List.{list_all};
 ghost use Rattle.sheets.specs.Literals.{held};
 ghost use Rattle.sheets.specs.LiteralSets.{Stands};
-ghost use Rattle.rulefile.specs.Ranges.{is_weight, levels, most_wish_literals};
+ghost use Rattle.rulefile.specs.Ranges.{is_weight, top_level, most_wish_literals};
 
 use sheets::{Interpretation, Literal, LiteralSet};
 
@@ -15,9 +15,9 @@ pub struct Wish {
     pub literals: Vec<Literal>,
     // The literals again.
     pub(crate) set: LiteralSet,
-    // The level is from 1 to `LEVELS`.
+    // The level is from 1 to `TOP_LEVEL`.
     ghost low: { 1 ≤ level },
-    ghost high: { level ≤ levels },
+    ghost high: { level ≤ top_level },
     // The weight is in its range.
     ghost weighed: { is_weight weight ≡ true },
     // A wish has 1 to `MOST_WISH_LITERALS` literals.
