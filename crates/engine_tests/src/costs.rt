@@ -1,5 +1,6 @@
 // The costs of sheets, by the scales and by sums of the program's own.
 use crate::solver::{holds, is_in};
+use rulefile::limits::TOP_LEVEL;
 use rulefile::{RuleFile, Wish};
 use scales::{Distance, LevelCost, Levels};
 use sheets::{Sheet, WIDTH, first_marks};
@@ -22,7 +23,7 @@ pub fn sum_at(file: &RuleFile, level: u8, sheet: Sheet) -> i64 {
 }
 
 fn same_levels(file: &RuleFile, cost: LevelCost, sheet: Sheet) -> bool {
-    (1..=8u8).all(|level| i64::from(cost.at(level)) == sum_at(file, level, sheet))
+    (1..=TOP_LEVEL).all(|level| i64::from(cost.at(level)) == sum_at(file, level, sheet))
 }
 
 // In how many marks the sheets differ.

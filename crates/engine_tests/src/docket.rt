@@ -1,6 +1,6 @@
 // The rules of a docket, kept on a plain list of acts.
 use rulefile::Act;
-use sheets::{Mark, Sheet};
+use sheets::{Mark, Sheet, WIDTH};
 use std::alloc::{AllocError, Global};
 
 const MOST_ACTS: usize = 32;
@@ -34,7 +34,7 @@ impl Docket {
     }
 
     fn sheet_refusal(&self, sheet: Sheet) -> Option<u8> {
-        if self.count < 64 && sheet >= 1 << self.count {
+        if self.count < WIDTH && sheet >= 1 << self.count {
             Some(21)
         } else if self.acts.contains(&Act::Strike(sheet)) {
             Some(24)

@@ -2,32 +2,26 @@
 // draws on.
 use rand_core::utils::NextWord;
 use rand_pcg::Pcg32;
+use rulefile::limits::{MOST_WEIGHT, NO_HIGH, NOT, TOP_LEVEL};
 use rulefile::{Element, Kind};
 use sheets::{Literal, Mark, Sheet, first_marks};
 use std::alloc::{AllocError, Global};
 
-// Stands for no high bound in a file.
-const NO_HIGH: u32 = u32::MAX;
+// How many weights a wish can have.
+const WEIGHTS: u32 = 2 * MOST_WEIGHT as u32 + 1;
 
 // Adds a record of the kind, with its length.
 fn add_record(file: &mut Vec<u8>, kind: Kind, body: &[u8]) -> Result<(), AllocError> {
-    let code: u16 = match kind {
-        Kind::Head => 1,
-        Kind::Rule => 2,
-        Kind::Clause => 3,
-        Kind::Wish => 4,
-        Kind::Act => 5,
-    };
     let [a, b, c, d, ..] = body.len().wrapping_add(2).to_le_bytes();
     file.extend_from_slice(&[a, b, c, d])?;
-    file.extend_from_slice(&code.to_le_bytes())?;
+    file.extend_from_slice(&kind.number().to_le_bytes())?;
     file.extend_from_slice(body)
 }
 
 // The byte of a literal in a file.
 fn byte_of(literal: Literal) -> u8 {
     if literal.negated {
-        literal.mark | 128
+        literal.mark | NOT
     } else {
         literal.mark
     }
@@ -227,10 +221,10 @@ impl Draw {
 
     // Small weights, so that there are sheets of one cost, and now and then large ones.
     fn add_wish(&mut self, file: &mut Vec<u8>) -> Result<(), AllocError> {
-        let level = self.small(8).saturating_add(1);
+        let level = self.small(TOP_LEVEL).saturating_add(1);
         let weight = if self.below(3) == 0 {
-            let [a, b, ..] = self.below(20_001).to_le_bytes();
-            i16::from_le_bytes([a, b]).wrapping_sub(10_000)
+            let [a, b, ..] = self.below(WEIGHTS).to_le_bytes();
+            i16::from_le_bytes([a, b]).wrapping_sub(MOST_WEIGHT)
         } else {
             i16::from(self.small(7)).wrapping_sub(3)
         };

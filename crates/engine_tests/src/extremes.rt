@@ -1,5 +1,6 @@
 // Files of wishes at the limits of weights and levels.
 use crate::costs::try_costs;
+use rulefile::limits::{MOST_OF_KIND, MOST_WEIGHT, TOP_LEVEL};
 use rulefile::{RuleFile, read};
 use scales::Levels;
 use std::alloc::Global;
@@ -13,7 +14,7 @@ const HEAD: [u8; 15] = [11, 0, 0, 0, 1, 0, 1, 0, 0, 0, 0, 0, 0, 0, 0];
 // So many wishes of the weight at each level from `low` to `high`, if mark 0 is there.
 #[derive(Clone, Copy)]
 struct Wishes {
-    times: u16,
+    times: usize,
     weight: i16,
     low: u8,
     high: u8,
@@ -22,15 +23,15 @@ struct Wishes {
 const EXTREMES: [Wishes; 5] = [
     Wishes {
         times: 1,
-        weight: 10_000,
+        weight: MOST_WEIGHT,
         low: 1,
-        high: 8,
+        high: TOP_LEVEL,
     },
     Wishes {
         times: 1,
-        weight: -10_000,
+        weight: -MOST_WEIGHT,
         low: 1,
-        high: 8,
+        high: TOP_LEVEL,
     },
     Wishes {
         times: 2,
@@ -39,14 +40,14 @@ const EXTREMES: [Wishes; 5] = [
         high: 3,
     },
     Wishes {
-        times: 256,
-        weight: 10_000,
-        low: 8,
-        high: 8,
+        times: MOST_OF_KIND,
+        weight: MOST_WEIGHT,
+        low: TOP_LEVEL,
+        high: TOP_LEVEL,
     },
     Wishes {
-        times: 256,
-        weight: -10_000,
+        times: MOST_OF_KIND,
+        weight: -MOST_WEIGHT,
         low: 1,
         high: 1,
     },
@@ -78,13 +79,13 @@ impl Wishes {
     fn file(self, heap: Global) -> anyhow::Result<RuleFile> {
         let mut bytes = Vec::from_slice(heap, &HEAD)?;
         for level in self.low..=self.high {
-            let wishes = self.record(level).repeat(heap, usize::from(self.times))?;
+            let wishes = self.record(level).repeat(heap, self.times)?;
             bytes.extend_from_slice(wishes.as_slice())?;
         }
         Ok(read(heap, bytes.as_slice())?)
     }
 
-    // What the sheet {0} costs, from level 8 down.
+    // What the sheet {0} costs, from the top level down.
     fn print_costs(self, rt: &HostRuntime) -> anyhow::Result<()> {
         let heap = rt.alloc();
         let file = Rc::new(heap, self.file(heap)?)?;

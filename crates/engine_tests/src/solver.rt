@@ -1,6 +1,7 @@
 // A second solver, by other means than the engine's: it goes through all sets of marks and takes what the sets that
 // satisfy the reduct have in common. Rules, sets and sheets are parameters, as in the definitions that it follows.
 ghost use Rattle.std.specs.Prelude.{◌≤◌, length};
+ghost use Rattle.rulefile.specs.Ranges.{most_elements};
 
 use judges::Verdict;
 use rulefile::{Constraint, Element, Rule, RuleFile};
@@ -22,7 +23,7 @@ pub fn holds(literal: Literal, plain: Sheet, negated: Sheet) -> bool {
 
 // The weights of the plain elements in one sheet and of the "not" elements that hold in the other.
 fn weight_of(elements: &[Element], plain: Sheet, negated: Sheet) -> u64
-    requires { length elements.now ≤ 32 }
+    requires { length elements.now ≤ most_elements }
 {
     elements
         .iter()

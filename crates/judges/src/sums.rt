@@ -1,6 +1,7 @@
 // The sum of a weight constraint.
 ghost use Rattle.std.specs.Prelude.{◌≡◌, ◌≤◌, length};
 ghost use Rattle.sheets.specs.Literals.{held};
+ghost use Rattle.rulefile.specs.Ranges.{most_elements};
 ghost use Rattle.rulefile.specs.Model.{constraint_of};
 ghost use Rattle.judges.specs.Programs.{weigh, at_most, satisfied};
 
@@ -9,7 +10,7 @@ use sheets::{Interpretation, Sheet};
 
 // The weights of the elements that are held.
 fn held_weight(elements: &[Element], by: Interpretation) -> u32
-    requires { length elements.now ≤ 32 }
+    requires { length elements.now ≤ most_elements }
     ensures { result ≡ weigh (held by.there by.among) elements.now }
 {
     // No `filter`: which elements are held is no branch to guess.

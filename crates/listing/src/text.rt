@@ -184,7 +184,7 @@ impl fmt::Display for FileText<'_> {
         let house = SheetText(self.file.house);
         writeln!(f, "head: {count} marks, house sheet {house}")?;
         let mut records = Records::new(self.file);
-        for kind in self.file.order.iter() {
+        for kind in self.file.kinds.iter() {
             if let Some(record) = records.next(*kind) {
                 write!(f, "{record}")?;
             }

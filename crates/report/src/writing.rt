@@ -8,6 +8,7 @@ ghost use Rattle.report.specs.Logs.{final_text, answer_text, log_text};
 use crate::settling::Cost;
 use orders::{Answer, Event, Refusal};
 use rulefile::BadFile;
+use rulefile::limits::TOP_LEVEL;
 use scales::LevelCost;
 use sheets::{Sheet, WIDTH, has_mark};
 
@@ -83,12 +84,12 @@ impl<'a> Writer<'a> {
         }
     }
 
-    // The costs from level 8 down to level 1, each behind a space.
+    // The costs from the top level down to level 1, each behind a space.
     fn levels(&mut self, cost: LevelCost)
         requires { HasRoom self.old (spaced signed_decimal (down_from top (cost_at cost.levels))) }
         ensures { Writes self.old (spaced signed_decimal (down_from top (cost_at cost.levels))) self.new }
     {
-        for level in (1..=8).rev() {
+        for level in (1..=TOP_LEVEL).rev() {
             self.text(b" ");
             self.signed(cost.at(level));
         }

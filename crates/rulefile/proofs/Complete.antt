@@ -2,22 +2,26 @@
 use Rattle.std.proofs.Common.{◌≡◌, ℕ, ◌+◌, ◌-◌, ◌<◌, ◌≤◌, leb, List, [], ◌∷◌, ◌++◌, map, length, take, drop, IfOk, Ok, Err, Result, sym, refl, ap, subst, ◌∙◌, append_assoc, arith, length-append}
 use Rattle.std.specs.List.{flat_map, AllByRecursion}
 use Rattle.std.proofs.lemmas.List.{length-map, take_at, drop_at}
-use Rattle.std.proofs.lemmas.Bool.{le-leb, lt-ltb, and_from}
+use Rattle.std.proofs.lemmas.Bool.{le-leb, lt-ltb, ne_eqb, and_from}
 use Rattle.rulefile.specs.declared.refusals.Refusal.{Refusal}
 use Rattle.rulefile.specs.declared.refusals.ReadError.{ReadError}
 use Rattle.rulefile.specs.declared.refusals.ReadError.TheVariants.{Refused, Memory}
 use Rattle.rulefile.specs.declared.files.RuleFile.{RuleFile}
 use Rattle.rulefile.specs.declared.records.Kind.{Kind}
 use Rattle.rulefile.specs.declared.records.Kind.TheVariants.{Head, Rule, Clause, Wish, Act as ActKind}
+use Rattle.rulefile.specs.Numbers.{kind_number}
+use Rattle.rulefile.specs.Lists.{list_of, with_one}
 use Rattle.rulefile.specs.Model.{FileModel}
 use Rattle.rulefile.specs.Parser.{Parse, took, little}
-use Rattle.rulefile.specs.Format.{head_body, rule_body, clause_body, wish_body, act_body, kind_of, room_at, head_alone, with_rule, with_clause, with_wish, with_act, first_body, later_body, first, later, cut, records, decode}
+use Rattle.rulefile.specs.Format.{head_body, body_of, kind_of, room_at, head_alone, first_body, later_body, first, later, cut, records, decode}
 use Rattle.rulefile.specs.Answers.{file_of, Reads}
 use Rattle.rulefile.specs.Reading.{Reading}
 use Rattle.rulefile.specs.Laws.{RecordBytes, bytes_of, Framed, bodies_of, Fits, Accepted}
+use Rattle.rulefile.specs.Ranges.{least_length, most_length, most_of_kind}
 use Rattle.rulefile.proofs.Frames.{cut_made}
 use Rattle.rulefile.proofs.Drafts.{adding_made, whole_cut, decode_first, records_more}
-use Rattle.rulefile.proofs.Accepted.{kind_number, Adds, accepted}
+use Rattle.rulefile.proofs.Lists.{each_list, later_item, few_items, none_yet, Goes, bodies_here, bodies_other}
+use Rattle.rulefile.proofs.Accepted.{number_known, Adds, accepted}
 
 -- ---- a record at the front of the bytes
 
@@ -46,7 +50,7 @@ module _ (r : RecordBytes) (framed : Framed r) (rest : List ℕ) where
       cut_made whole (r.body ++ rest) r.body rest n (little r.kind)
       (omega (arith, long))
       (ap little (ap (take 4) parts ∙ take_at r.size (r.kind ++ (r.body ++ rest)) 4 framed.four))
-      (and_from (leb 2 n) (leb n 1024) (le-leb 2 n (omega (arith, framed.counts, framed.two))) (le-leb n 1024 framed.most))
+      (and_from (leb least_length n) (leb n most_length) (le-leb least_length n (omega (arith, framed.counts, framed.two))) (le-leb n most_length framed.most))
       tail
       (omega arith)
       (ap (λ xs. little (take 2 xs)) (ap (drop 4) parts ∙ drop_at r.size (r.kind ++ (r.body ++ rest)) 4 framed.four) ∙ ap little (take_at r.kind (r.body ++ rest) 2 framed.two))
@@ -67,7 +71,7 @@ next_of {Y = Y} m (x ∷ xs) (z ∷ zs) y ys e =
     (n.0, n.1, ap (λ w. m x ∷ w) n.2 ∙ ap (λ (w : Y). w ∷ map m zs) top)
 
 -- a list with one more behind it is no longer than the whole
-next_room : {X Y : Type 0} (m : X → Y) (xs zs : List X) (y : Y) (ys : List Y) → map m xs ++ y ∷ ys ≡ map m zs → length zs ≤ 256 → length xs < 256
+next_room : {X Y : Type 0} (m : X → Y) (xs zs : List X) (y : Y) (ys : List Y) → map m xs ++ y ∷ ys ≡ map m zs → length zs ≤ most_of_kind → length xs < most_of_kind
 next_room m xs zs y ys e le =
     let a = ap length e in
     let b = length-append (map m xs) (y ∷ ys) in
@@ -91,92 +95,35 @@ record Next (g : FileModel) (r : RecordBytes) (rs : List RecordBytes) (f : FileM
   says : later g (little r.kind) r.body ≡ took file []
   adds : Adds file rs f
 
-has_room : (n : ℕ) → n < 256 → Ok tt ≡ room_at n
-has_room n lt = rw (lt-ltb n 256 lt)
+has_room : (n : ℕ) → n < most_of_kind → Ok tt ≡ room_at n
+has_room n lt = rw (lt-ltb n most_of_kind lt)
 
 later_is : {q : Parse FileModel} (g : FileModel) (n : ℕ) (k : Kind) (bs : List ℕ) → kind_of n ≡ Ok k → later_body g k bs ≡ q → later g n bs ≡ q
 unfolding later
 later_is g n k bs e h = rw e h
 
 module _ (g f : FileModel) (r : RecordBytes) (rs : List RecordBytes) (a : Adds g (r ∷ rs) f) (fits : Fits f) where
-  next : (k : Kind) → kind_of (little r.kind) ≡ Ok k → map Ok (g.order ++ k ∷ []) ++ map (λ (q : RecordBytes). kind_of (little q.kind)) rs ≡ map Ok f.order → Next g r rs f
-  unfolding later_body
-  next Head e o = absurd (a.only.0 (kind_number (little r.kind) Head e))
-  next Rule e o =
-      let n = kind_number (little r.kind) Rule e in
-      let here : map (λ x. took x []) g.rules ++ (rule_body g.count) r.body ∷ map (rule_body g.count) (bodies_of 2 rs) ≡ map (λ x. took x []) f.rules = rw n at a.rules in
-      let x = next_of (λ x. took x []) g.rules f.rules _ _ here in
+  next : (k : Kind) → kind_of (little r.kind) ≡ Ok k → map Ok (g.kinds ++ k ∷ []) ++ map (λ (q : RecordBytes). kind_of (little q.kind)) rs ≡ map Ok f.kinds → Next g r rs f
+  next k e o =
+      let n = number_known (little r.kind) k e in
+      let here = subst (λ bs. Goes k g.count (list_of k g) bs f) (bodies_here r rs k n) (a.lists k) in
+      let x = next_of (λ x. took x []) (list_of k g) (list_of k f) (body_of k g.count r.body) _ here in
+      let room = next_room (λ x. took x []) (list_of k g) (list_of k f) (body_of k g.count r.body) _ here (few_items f fits k) in
       record {
-        file = with_rule g x.0;
-        says = later_is g (little r.kind) Rule r.body e (adding_made _ _ _ r.body [] x.0 _ (has_room _ (next_room (λ x. took x []) g.rules f.rules _ _ here fits.few_rules)) x.1 refl);
+        file = with_one k g x.0;
+        says = later_is g (little r.kind) k r.body e (later_item g k x.0 r.body ∙ adding_made _ _ _ r.body [] x.0 _ (has_room _ room) x.1 refl);
         adds = record {
           count = a.count;
           house = a.house;
           only = a.only.1;
-          order = o;
-          rules = x.2;
-          clauses = rw n at a.clauses;
-          wishes = rw n at a.wishes;
-          acts = rw n at a.acts;
-        };
-      }
-  next Clause e o =
-      let n = kind_number (little r.kind) Clause e in
-      let here : map (λ x. took x []) g.clauses ++ (clause_body g.count) r.body ∷ map (clause_body g.count) (bodies_of 3 rs) ≡ map (λ x. took x []) f.clauses = rw n at a.clauses in
-      let x = next_of (λ x. took x []) g.clauses f.clauses _ _ here in
-      record {
-        file = with_clause g x.0;
-        says = later_is g (little r.kind) Clause r.body e (adding_made _ _ _ r.body [] x.0 _ (has_room _ (next_room (λ x. took x []) g.clauses f.clauses _ _ here fits.few_clauses)) x.1 refl);
-        adds = record {
-          count = a.count;
-          house = a.house;
-          only = a.only.1;
-          order = o;
-          rules = rw n at a.rules;
-          clauses = x.2;
-          wishes = rw n at a.wishes;
-          acts = rw n at a.acts;
-        };
-      }
-  next Wish e o =
-      let n = kind_number (little r.kind) Wish e in
-      let here : map (λ x. took x []) g.wishes ++ (wish_body g.count) r.body ∷ map (wish_body g.count) (bodies_of 4 rs) ≡ map (λ x. took x []) f.wishes = rw n at a.wishes in
-      let x = next_of (λ x. took x []) g.wishes f.wishes _ _ here in
-      record {
-        file = with_wish g x.0;
-        says = later_is g (little r.kind) Wish r.body e (adding_made _ _ _ r.body [] x.0 _ (has_room _ (next_room (λ x. took x []) g.wishes f.wishes _ _ here fits.few_wishes)) x.1 refl);
-        adds = record {
-          count = a.count;
-          house = a.house;
-          only = a.only.1;
-          order = o;
-          rules = rw n at a.rules;
-          clauses = rw n at a.clauses;
-          wishes = x.2;
-          acts = rw n at a.acts;
-        };
-      }
-  next ActKind e o =
-      let n = kind_number (little r.kind) ActKind e in
-      let here : map (λ x. took x []) g.acts ++ (act_body) r.body ∷ map (act_body) (bodies_of 5 rs) ≡ map (λ x. took x []) f.acts = rw n at a.acts in
-      let x = next_of (λ x. took x []) g.acts f.acts _ _ here in
-      record {
-        file = with_act g x.0;
-        says = later_is g (little r.kind) ActKind r.body e (adding_made _ _ _ r.body [] x.0 _ (has_room _ (next_room (λ x. took x []) g.acts f.acts _ _ here fits.few_acts)) x.1 refl);
-        adds = record {
-          count = a.count;
-          house = a.house;
-          only = a.only.1;
-          order = o;
-          rules = rw n at a.rules;
-          clauses = rw n at a.clauses;
-          wishes = rw n at a.wishes;
-          acts = x.2;
+          kinds = o;
+          lists = each_list g k x.0 (λ j xs. Goes j g.count xs (bodies_of (kind_number j) rs) f) x.2
+              (λ j other. subst (λ bs. Goes j g.count (list_of j g) bs f) (bodies_other r rs k n j other) (a.lists j));
         };
       }
 
   next_file : Next g r rs f
-  next_file = let k = next_of Ok g.order f.order _ _ a.order in next k.0 k.1 k.2
+  next_file = let k = next_of Ok g.kinds f.kinds _ _ a.kinds in next k.0 k.1 k.2
 
 took_one : {X : Type 0} (x z : X) → took x [] ≡ took z [] → x ≡ z
 took_one x z e = cc
@@ -191,12 +138,13 @@ same_file : (g f : FileModel) → Adds g [] f → g ≡ f
 same_file g f a =
     let count = a.count in
     let house = a.house in
-    let order = same_list known known_one g.order f.order a.order in
-    let rules = same_list (λ x. took x []) took_one g.rules f.rules a.rules in
-    let clauses = same_list (λ x. took x []) took_one g.clauses f.clauses a.clauses in
-    let wishes = same_list (λ x. took x []) took_one g.wishes f.wishes a.wishes in
-    let acts = same_list (λ x. took x []) took_one g.acts f.acts a.acts in
-    rw (count, house, order, rules, clauses, wishes, acts)
+    let kinds = same_list known known_one g.kinds f.kinds a.kinds in
+    let same : (k : Kind) → list_of k g ≡ list_of k f = λ k. same_list (λ x. took x []) took_one (list_of k g) (list_of k f) (a.lists k) in
+    let rules = same Rule in
+    let clauses = same Clause in
+    let wishes = same Wish in
+    let acts = same ActKind in
+    rw (count, house, kinds, rules, clauses, wishes, acts)
 
 records_of : (rs : List RecordBytes) (n size : ℕ) (g f : FileModel) → AllByRecursion Framed rs → Adds g rs f → Fits f → length (flat_map bytes_of rs) ≤ n → records n size g (flat_map bytes_of rs) ≡ Ok f
 unfolding records
@@ -209,8 +157,21 @@ records_of (r ∷ rs) n size g f framed a fits le =
     let m = records_more n size g x.file (bytes_of r ++ rest) rest (omega arith) le (whole_cut (later g) _ r.body rest (little r.kind) (cut_front r framed.0 rest) x.says) in
     m.2 ∙ records_of rs m.0 size x.file f framed.1 x.adds fits (omega (arith, m.1))
 
+-- where no record is a head there are no bodies of heads
+no_heads : (rs : List RecordBytes) → AllByRecursion (λ (r : RecordBytes). little r.kind ≡ kind_number Head → ⊥) rs → bodies_of (kind_number Head) rs ≡ []
+no_heads [] h = refl
+no_heads (r ∷ rs) h = rw (ne_eqb (little r.kind) (kind_number Head) h.0) (no_heads rs h.1)
+
+-- what the later records say, from the head on
+all_said : (bs : List ℕ) (f : FileModel) (a : Accepted bs f) (k : Kind) → Goes k f.count [] (bodies_of (kind_number k) a.later) f
+all_said bs f a Head = ap (map (body_of Head f.count)) (no_heads a.later a.only)
+all_said bs f a Rule = a.rules
+all_said bs f a Clause = a.clauses
+all_said bs f a Wish = a.wishes
+all_said bs f a ActKind = a.acts
+
 -- the first record of a file
-head_is : (n : ℕ) (bs : List ℕ) (h : ℕ × ℕ) → n ≡ 1 → head_body bs ≡ took h [] → first n bs ≡ took (head_alone h) []
+head_is : (n : ℕ) (bs : List ℕ) (h : ℕ × ℕ) → n ≡ kind_number Head → head_body bs ≡ took h [] → first n bs ≡ took (head_alone h) []
 unfolding first first_body
 head_is n bs h e says = rw (e, says)
 
@@ -221,7 +182,7 @@ complete bs f a =
     let b = length-append a.head.body rest in
     let e = ap length a.sequence in
     let begun : Adds (head_alone (f.count, f.house)) a.later f = record
-    { count = refl; house = refl; only = a.only; order = a.order; rules = a.rules; clauses = a.clauses; wishes = a.wishes; acts = a.acts } in
+    { count = refl; house = refl; only = a.only; kinds = a.kinds; lists = λ k. subst (λ xs. Goes k f.count xs (bodies_of (kind_number k) a.later) f) (sym (none_yet k (f.count, f.house))) (all_said bs f a k) } in
     decode_first bs rest (head_alone (f.count, f.house)) a.short
     (whole_cut first bs a.head.body rest (little a.head.kind) (ap cut a.sequence ∙ cut_front a.head a.framed.0 rest) (head_is (little a.head.kind) a.head.body (f.count, f.house) a.first a.says))
     ∙ records_of a.later (length bs) (length bs) (head_alone (f.count, f.house)) f a.framed.1 begun a.fits (omega arith)

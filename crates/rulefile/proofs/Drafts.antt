@@ -4,6 +4,7 @@ use Rattle.std.proofs.lemmas.Bool.{lt-ltb, le-ltb, eqb-true, eqb-false}
 use Rattle.rulefile.specs.declared.refusals.Refusal.{Refusal}
 use Rattle.rulefile.specs.declared.refusals.Refusal.TheVariants.{FileTooLong}
 use Rattle.rulefile.specs.Model.{FileModel}
+use Rattle.rulefile.specs.Ranges.{most_bytes}
 use Rattle.rulefile.specs.Parser.{Parse, Parser, took, fails}
 use Rattle.rulefile.specs.declared.refusals.BadFile.{BadFile}
 use Rattle.rulefile.specs.Format.{first, later, cut, adding, room_at, whole, bad, records, decode}
@@ -25,17 +26,17 @@ whole_cut p bs body rest k e h = rw (e, h)
 
 -- ---- the first record
 
-pub decode_long : (bs : List ℕ) → 32768 < length bs → decode bs ≡ bad FileTooLong 0
+pub decode_long : (bs : List ℕ) → most_bytes < length bs → decode bs ≡ bad FileTooLong 0
 unfolding decode
-decode_long bs h = rw (lt-ltb 32768 (length bs) h)
+decode_long bs h = rw (lt-ltb most_bytes (length bs) h)
 
-pub decode_refused : {why : Refusal} (bs : List ℕ) → length bs ≤ 32768 → whole first bs ≡ fails why → decode bs ≡ bad why 0
+pub decode_refused : {why : Refusal} (bs : List ℕ) → length bs ≤ most_bytes → whole first bs ≡ fails why → decode bs ≡ bad why 0
 unfolding decode
-decode_refused bs h e = rw (le-ltb 32768 (length bs) h, e)
+decode_refused bs h e = rw (le-ltb most_bytes (length bs) h, e)
 
-pub decode_first : (bs rest : List ℕ) (g : FileModel) → length bs ≤ 32768 → whole first bs ≡ took g rest → decode bs ≡ records (length bs) (length bs) g rest
+pub decode_first : (bs rest : List ℕ) (g : FileModel) → length bs ≤ most_bytes → whole first bs ≡ took g rest → decode bs ≡ records (length bs) (length bs) g rest
 unfolding decode
-decode_first bs rest g h e = rw (le-ltb 32768 (length bs) h, e)
+decode_first bs rest g h e = rw (le-ltb most_bytes (length bs) h, e)
 
 -- ---- the later records
 

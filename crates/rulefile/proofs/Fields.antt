@@ -1,7 +1,8 @@
 -- Fields of a body, and the numbers that bytes stand for.
-use Rattle.std.proofs.Common.{◌≡◌, ℕ, zero, suc, ◌+◌, ◌*◌, List, [], ◌∷◌, length, get_or, take, drop, sym, refl, ap, ◌∙◌, arith, w16, w32, w64}
+use Rattle.std.proofs.Common.{◌≡◌, ℕ, zero, suc, ◌+◌, ◌*◌, List, [], ◌∷◌, ◌++◌, length, get_or, take, drop, sym, refl, ap, ◌∙◌, arith, w16, w32, w64}
 use Rattle.std.proofs.lemmas.List.{take_all}
 use Rattle.std.specs.Int.{from_le_bytes}
+use Rattle.std.proofs.Math.ListN.{replicate}
 use Rattle.rulefile.specs.Parser.{little}
 
 little_none : (n : ℕ) → little (take n []) ≡ 0
@@ -44,3 +45,9 @@ little_of_4 xs h = ap little (sym (take_all 4 xs (omega arith))) ∙ little_4 xs
 
 pub little_of_8 : (xs : List ℕ) → length xs ≡ 8 → little xs ≡ from_le_bytes w64 xs
 little_of_8 xs h = ap little (sym (take_all 8 xs (omega arith))) ∙ little_8 xs
+
+-- zeros behind the bytes change nothing
+pub little_zeros : (xs : List ℕ) (n : ℕ) → little (xs ++ replicate n 0) ≡ little xs
+little_zeros [] zero = refl
+little_zeros [] (suc n) = omega (arith, little_zeros [] n)
+little_zeros (x ∷ xs) n = ap (λ m. x + m * 256) (little_zeros xs n)

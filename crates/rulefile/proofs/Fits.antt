@@ -1,5 +1,5 @@
 -- The limits of a file, as facts and as tests.
-use Rattle.std.proofs.Common.{◌≡◌, ℕ, ◌^◌, ◌<◌, ◌≤◌, Bool, true, ltb, leb, List, length, Decides, refl}
+use Rattle.std.proofs.Common.{◌≡◌, ℕ, ◌^◌, ◌<◌, ◌≤◌, Bool, true, ltb, leb, List, [], ◌∷◌, length, Decides, refl}
 use Rattle.std.specs.List.{list_all, AllByRecursion}
 use Rattle.std.proofs.lemmas.Bool.Decides.{Decides-and, Decides-ltb, Decides-like}
 use Rattle.std.proofs.ByRecursion.{Decides-by_and}
@@ -7,9 +7,15 @@ use Rattle.std.proofs.lemmas.Bool.{leb-true, le-leb}
 use Rattle.sheets.specs.Sheets.{width}
 use Rattle.sheets.specs.declared.literals.Literal.{Literal}
 use Rattle.rulefile.specs.declared.constraints.Element.{Element}
-use Rattle.rulefile.specs.Model.{ConstraintModel, RuleModel, WishModel, FileModel}
-use Rattle.rulefile.specs.Limits.{literals_below, constraint_below, rule_below, is_few, is_fit}
-use Rattle.rulefile.specs.Laws.{LiteralsBelow, ConstraintBelow, RuleBelow, Fits}
+use Rattle.rulefile.specs.declared.records.Kind.{Kind}
+use Rattle.rulefile.specs.declared.records.Kind.TheVariants.{Head, Rule, Clause, Wish, Act as ActKind}
+use Rattle.rulefile.specs.Ranges.{most_of_kind}
+use Rattle.rulefile.specs.Numbers.{all_kinds}
+use Rattle.rulefile.specs.Lists.{Item, list_of}
+use Rattle.rulefile.specs.Model.{ConstraintModel, RuleModel, FileModel}
+use Rattle.rulefile.specs.Limits.{literals_below, constraint_below, rule_below, item_below, is_list_fit, is_fit}
+use Rattle.rulefile.specs.Laws.{LiteralsBelow, ConstraintBelow, RuleBelow, ItemBelow, Fits}
+use Rattle.rulefile.proofs.Lists.{items_below, few_items, fits_of}
 
 decides_leb : (m n : ℕ) → Decides (leb m n) (m ≤ n)
 decides_leb m n = (leb-true m n, le-leb m n)
@@ -26,33 +32,40 @@ constraint n k = decides_all (λ (e : Element). ltb e.literal.mark n) (λ (e : E
 rule : (n : ℕ) (r : RuleModel) → Decides (rule_below n r) (RuleBelow n r)
 rule n r = Decides-and _ _ (constraint n r.head) (decides_all (constraint_below n) (ConstraintBelow n) (constraint n) r.body)
 
-few : {A : Type 0} (xs : List A) → Decides (is_few xs) (length xs ≤ 256)
-few xs = decides_leb (length xs) 256
+item : (k : Kind) (n : ℕ) (x : Item k) → Decides (item_below k n x) (ItemBelow k n x)
+item Head n x = absurd x
+item Rule n r = rule n r
+item Clause n k = literals n k
+item Wish n w = literals n w.literals
+item ActKind n a = (λ _. tt, λ _. refl)
+
+-- the list of a kind keeps its limits
+abbrev ListFits : FileModel → Kind → Type 0
+ListFits f k = AllByRecursion (ItemBelow k f.count) (list_of k f) × (length (list_of k f) ≤ most_of_kind)
+
+lists : (f : FileModel) → Decides (list_all (is_list_fit f) all_kinds) (AllByRecursion (ListFits f) all_kinds)
+lists f = decides_all (is_list_fit f) (ListFits f) (λ k. Decides-and _ _ (decides_all (item_below k f.count) (ItemBelow k f.count) (item k f.count) (list_of k f)) (decides_leb (length (list_of k f)) most_of_kind)) all_kinds
+
+-- what holds of all kinds holds of each
+of_each : (P : Kind → Type 0) → AllByRecursion P all_kinds → (k : Kind) → P k
+of_each P h Head = h.0
+of_each P h Rule = h.1.0
+of_each P h Clause = h.1.1.0
+of_each P h Wish = h.1.1.1.0
+of_each P h ActKind = h.1.1.1.1.0
+
+of_all : (P : Kind → Type 0) → ((k : Kind) → P k) → (ks : List Kind) → AllByRecursion P ks
+of_all P h [] = tt
+of_all P h (k ∷ ks) = (h k, of_all P h ks)
 
 -- the test passes exactly where the limits are kept
 pub decides_fit : (f : FileModel) → Decides (is_fit f) (Fits f)
 unfolding is_fit
 decides_fit f =
-    let n = f.count in
-    let d = Decides-and _ _ (decides_leb 1 n) (Decides-and _ _ (decides_leb n width) (Decides-and _ _ (Decides-ltb f.house (2 ^ n))
-    (Decides-and _ _ (decides_all (rule_below n) (RuleBelow n) (rule n) f.rules)
-    (Decides-and _ _ (decides_all (literals_below n) (LiteralsBelow n) (literals n) f.clauses)
-    (Decides-and _ _ (decides_all (λ (w : WishModel). literals_below n w.literals) (λ (w : WishModel). LiteralsBelow n w.literals) (λ w. literals n w.literals) f.wishes)
-    (Decides-and _ _ (few f.rules) (Decides-and _ _ (few f.clauses) (Decides-and _ _ (few f.wishes) (few f.acts))))))))) in
+    let d = Decides-and _ _ (decides_leb 1 f.count) (Decides-and _ _ (decides_leb f.count width) (Decides-and _ _ (Decides-ltb f.house (2 ^ f.count)) (lists f))) in
     Decides-like _
-    (λ h. record {
-      some = h.0;
-      few = h.1.0;
-      house = h.1.1.0;
-      rules = h.1.1.1.0;
-      clauses = h.1.1.1.1.0;
-      wishes = h.1.1.1.1.1.0;
-      few_rules = h.1.1.1.1.1.1.0;
-      few_clauses = h.1.1.1.1.1.1.1.0;
-      few_wishes = h.1.1.1.1.1.1.1.1.0;
-      few_acts = h.1.1.1.1.1.1.1.1.1;
-    })
-    (λ h. (h.some, (h.few, (h.house, (h.rules, (h.clauses, (h.wishes, (h.few_rules, (h.few_clauses, (h.few_wishes, h.few_acts))))))))))
+    (λ h. fits_of f h.0 h.1.0 h.1.1.0 (λ k. (of_each (ListFits f) h.1.1.1 k).0) (λ k. (of_each (ListFits f) h.1.1.1 k).1))
+    (λ h. (h.some, (h.few, (h.house, of_all (ListFits f) (λ k. (items_below f h k, few_items f h k)) all_kinds))))
     d
 
 pub fit_made : (f : FileModel) → Fits f → is_fit f ≡ true

@@ -5,6 +5,7 @@ pub mod Marks
 pub mod Counted
 pub mod Frames
 pub mod Drafts
+pub mod Lists
 pub mod Fits
 pub mod Accepted
 pub mod Complete

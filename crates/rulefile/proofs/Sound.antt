@@ -8,7 +8,7 @@ use Rattle.sheets.specs.declared.literals.Literal.{Literal}
 use Rattle.rulefile.specs.declared.refusals.Refusal.{Refusal}
 use Rattle.rulefile.specs.declared.refusals.Refusal.TheVariants.{RecordCut, LengthRange, LengthPastEnd, MarkRange, OutOfRange}
 use Rattle.rulefile.specs.declared.constraints.Element.{Element}
-use Rattle.rulefile.specs.Ranges.{is_weight}
+use Rattle.rulefile.specs.Ranges.{least_length, most_length, is_length, most_constraints, most_elements, most_clause_literals, most_wish_literals, top_level, is_weight}
 use Rattle.rulefile.specs.Model.{WishModel}
 use Rattle.rulefile.specs.Parser.{Parse, took, fails, Parser, after, check, bytes, little, field, within, times, end, wholly}
 use Rattle.rulefile.specs.Format.{literal, element, constraint, signed_field, sheet_field, head_fields, head_body, rule_fields, rule_body, clause_fields, clause_body, wish_fields, wish_body, cut}
@@ -58,7 +58,7 @@ Gives P (fails why) = Unit {0}
 pub given : {A : Type 0} {x : A} {rest : List ℕ} {q : Parse A} (P : A → Type 0) → q ≡ took x rest → Gives P q → P x
 given P e g = subst (Gives P) e g
 
-any : {A : Type 0} (q : Parse A) → Gives (λ _. Unit {0}) q
+pub any : {A : Type 0} (q : Parse A) → Gives (λ _. Unit {0}) q
 any (took x rest) = tt
 any (fails why) = tt
 
@@ -135,7 +135,7 @@ unfolding constraint
 gives_constraint count bs =
     let P : Element → Type 0 = λ e. e.literal.mark < count in
     let Q = ConstraintBelow count in
-    gives_then Q (field 4 bs) _ (λ low r. gives_then Q (field 4 r) _ (λ high r. gives_then Q (within 0 32 r) _ (λ n r.
+    gives_then Q (field 4 bs) _ (λ low r. gives_then Q (field 4 r) _ (λ high r. gives_then Q (within 0 most_elements r) _ (λ n r.
     gives_after (AllByRecursion P) Q (times n (element count) r) _ (gives_times P (element count) (gives_element count) n r) (λ es _ h. h))))
 
 gives_rule_fields : (count : ℕ) (bs : List ℕ) → Gives (RuleBelow count) (rule_fields count bs)
@@ -143,7 +143,7 @@ unfolding rule_fields
 gives_rule_fields count bs =
     let P = ConstraintBelow count in
     let Q = RuleBelow count in
-    gives_then Q (within 0 8 bs) _ (λ n r.
+    gives_then Q (within 0 most_constraints bs) _ (λ n r.
     gives_after P Q (constraint count r) _ (gives_constraint count r) (λ h r hh.
     gives_after (AllByRecursion P) Q (times n (constraint count) r) _ (gives_times P (constraint count) (gives_constraint count) n r) (λ ks r hk. (hh, hk))))
 
@@ -153,7 +153,7 @@ gives_rule count bs = gives_wholly (RuleBelow count) (rule_fields count) bs (giv
 
 gives_clause_fields : (count : ℕ) (bs : List ℕ) → Gives (LiteralsBelow count) (clause_fields count bs)
 unfolding clause_fields
-gives_clause_fields count bs = gives_then (LiteralsBelow count) (within 0 32 bs) _ (λ n r. gives_literals count n r)
+gives_clause_fields count bs = gives_then (LiteralsBelow count) (within 0 most_clause_literals bs) _ (λ n r. gives_literals count n r)
 
 pub gives_clause : (count : ℕ) (bs : List ℕ) → Gives (LiteralsBelow count) (clause_body count bs)
 unfolding clause_body
@@ -167,8 +167,8 @@ unfolding wish_fields
 gives_wish_fields count bs =
     let P = LiteralsBelow count in
     let Q = WishBelow count in
-    gives_then Q (within 1 8 bs) _ (λ level r. gives_then Q (signed_field r) _ (λ w r. gives_then Q (check (is_weight w) OutOfRange r) _ (λ _ r.
-    gives_then Q (within 1 16 r) _ (λ n r. gives_after P Q (times n (literal count) r) _ (gives_literals count n r) (λ ls _ h. h)))))
+    gives_then Q (within 1 top_level bs) _ (λ level r. gives_then Q (signed_field r) _ (λ w r. gives_then Q (check (is_weight w) OutOfRange r) _ (λ _ r.
+    gives_then Q (within 1 most_wish_literals r) _ (λ n r. gives_after P Q (times n (literal count) r) _ (gives_literals count n r) (λ ls _ h. h)))))
 
 pub gives_wish : (count : ℕ) (bs : List ℕ) → Gives (λ (w : WishModel). LiteralsBelow count w.literals) (wish_body count bs)
 unfolding wish_body
@@ -182,7 +182,7 @@ gives_head_fields : (bs : List ℕ) → Gives HeadFits (head_fields bs)
 unfolding head_fields
 gives_head_fields bs =
     gives_after (λ n. (1 ≤ n) × (n ≤ width)) HeadFits (within 1 width bs) _ (gives_within 1 width bs) (λ count r c.
-    gives_then HeadFits (sheet_field r) _ (λ house r. gives_check HeadFits (ltb house (2 ^ count)) MarkRange r _ (λ t _ r. (c.0, c.1, ltb-true house (2 ^ count) t))))
+    gives_then HeadFits (sheet_field count r) _ (λ house r. gives_check HeadFits (ltb house (2 ^ count)) MarkRange r _ (λ t _ r. (c.0, c.1, ltb-true house (2 ^ count) t))))
 
 pub gives_head : (bs : List ℕ) → Gives HeadFits (head_body bs)
 unfolding head_body
@@ -198,7 +198,7 @@ pub record CutOff (bs : List ℕ) (kind : ℕ) (body rest : List ℕ) : Type 0 w
   pub is_body : made.body ≡ body
 
 -- n bytes, the first two and the others, after four
-pieces : (n : ℕ) (bs : List ℕ) → 4 ≤ length bs → 2 ≤ n → n ≤ length (drop 4 bs) → little (take 4 bs) ≡ n → n ≤ 1024
+pieces : (n : ℕ) (bs : List ℕ) → 4 ≤ length bs → 2 ≤ n → n ≤ length (drop 4 bs) → little (take 4 bs) ≡ n → n ≤ most_length
     → CutOff bs (little (take 2 (take n (drop 4 bs)))) (drop 2 (take n (drop 4 bs))) (drop n (drop 4 bs))
 pieces n bs four two room e most =
     let block = take n (drop 4 bs) in
@@ -222,9 +222,9 @@ unfolding cut
 cut_took {rest} {r} bs e =
     let a = after_took (bytes 4 RecordCut bs) _ e in
     let x = bytes_took 4 RecordCut bs a.2 in
-    let b = after_took (check (leb 2 (little a.0) && leb (little a.0) 1024) LengthRange a.1) _ a.3 in
-    let t = check_took (leb 2 (little a.0) && leb (little a.0) 1024) LengthRange a.1 b.2 in
-    let range = and_parts (leb 2 (little a.0)) (leb (little a.0) 1024) t.0 in
+    let b = after_took (check (is_length (little a.0)) LengthRange a.1) _ a.3 in
+    let t = check_took (is_length (little a.0)) LengthRange a.1 b.2 in
+    let range = and_parts (leb least_length (little a.0)) (leb (little a.0) most_length) t.0 in
     let c = after_took (bytes (little a.0) LengthPastEnd b.1) _ b.3 in
     let y = bytes_took (little a.0) LengthPastEnd b.1 c.2 in
     let n = little a.0 in
@@ -232,7 +232,7 @@ cut_took {rest} {r} bs e =
     let block : c.0 ≡ take n (drop 4 bs) = y.1 ∙ ap (take n) at in
     let left : c.1 ≡ drop n (drop 4 bs) = y.2 ∙ ap (drop n) at in
     let same : took (little (take 2 c.0), drop 2 c.0) c.1 ≡ took r rest = c.3 in
-    let p = pieces n bs x.0 (leb-true 2 n range.0) (subst (λ xs. n ≤ length xs) at y.0) (ap little (sym x.1)) (leb-true n 1024 range.1) in
+    let p = pieces n bs x.0 (leb-true least_length n range.0) (subst (λ xs. n ≤ length xs) at y.0) (ap little (sym x.1)) (leb-true n most_length range.1) in
     let rw_kind : little (take 2 (take n (drop 4 bs))) ≡ r.0 = ap (λ xs. little (take 2 xs)) (sym block) ∙ ap (λ (q : ℕ × List ℕ). q.0) (took_value same) in
     let rw_body : drop 2 (take n (drop 4 bs)) ≡ r.1 = ap (drop 2) (sym block) ∙ ap (λ (q : ℕ × List ℕ). q.1) (took_value same) in
     let rw_rest : drop n (drop 4 bs) ≡ rest = sym left ∙ took_rest same in

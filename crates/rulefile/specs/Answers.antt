@@ -15,11 +15,11 @@ use Rattle.rulefile.specs.Format.{room_at}
 
 -- what a read file holds
 abbrev pub file_of : RuleFile → FileModel
-file_of f = model_of f.count f.house (vec_items f.rules) (vec_items f.clauses) (vec_items f.wishes) (vec_items f.acts) (vec_items f.order)
+file_of f = model_of f.count f.house (vec_items f.rules) (vec_items f.clauses) (vec_items f.wishes) (vec_items f.acts) (vec_items f.kinds)
 
 -- what a file holds that is not yet read to its end
 abbrev pub draft_of : Draft → FileModel
-draft_of f = model_of f.count f.house (vec_items f.rules) (vec_items f.clauses) (vec_items f.wishes) (vec_items f.acts) (vec_items f.order)
+draft_of f = model_of f.count f.house (vec_items f.rules) (vec_items f.clauses) (vec_items f.wishes) (vec_items f.acts) (vec_items f.kinds)
 
 -- a fault, where the parser's answer is p. Nothing is said where memory failed.
 abbrev pub Faults : {A : Type 0} → Parse A → Fault → Type 0

@@ -1,5 +1,5 @@
 -- The meaning of a rule file.
-use Rattle.std.specs.Prelude.{ℕ, zero, suc, ◌-◌, ◌%◌, ◌^◌, cond, ◌&&◌, List, [], ◌∷◌, ◌++◌, length, take, drop, ℤ, pos, negsuc, Some, None, Ok, Err, Option, Result, ◌==◌, nat_le, nat_lt}
+use Rattle.std.specs.Prelude.{ℕ, zero, suc, ◌-◌, ◌%◌, ◌^◌, cond, List, [], ◌∷◌, length, take, drop, ℤ, pos, negsuc, Some, None, Ok, Err, Option, Result, ◌==◌, nat_le, nat_lt}
 use Rattle.sheets.specs.Sheets.{Sheet, Count, width}
 use Rattle.sheets.specs.declared.literals.Literal.{Literal}
 use Rattle.rulefile.specs.declared.refusals.Refusal.{Refusal}
@@ -10,18 +10,20 @@ use Rattle.rulefile.specs.declared.records.Act.{Act}
 use Rattle.rulefile.specs.declared.records.Act.TheVariants.{Pin, Bar, Strike, Undo}
 use Rattle.rulefile.specs.declared.records.Kind.{Kind}
 use Rattle.rulefile.specs.declared.records.Kind.TheVariants.{Head, Rule, Clause, Wish, Act as ActKind}
-use Rattle.rulefile.specs.Ranges.{most_bytes, most_length, most_of_kind, is_weight}
+use Rattle.rulefile.specs.Ranges.{most_bytes, most_of_kind, most_constraints, most_elements, most_clause_literals, most_wish_literals, top_level, is_weight, no_high, most_code, not_bit, sheet_bytes, is_length}
+use Rattle.rulefile.specs.Numbers.{kind_number, all_kinds}
 use Rattle.rulefile.specs.Model.{ConstraintModel, RuleModel, WishModel, FileModel}
+use Rattle.rulefile.specs.Lists.{Item, list_of, with_one}
 use Rattle.rulefile.specs.Parser.{Parse, took, fails, Parser, after, ◌>>=◌, ◌>>◌, pure, refuse, check, parsed, bytes, little, field, within, times, wholly}
 
 -- ---- fields
 
--- a literal byte: the mark in its low seven bits, and 128 is added for "not"
+-- a literal byte: the mark in its low seven bits, and `not_bit` is added for "not"
 unfoldable pub literal : Count → Parser Literal
 literal count = do
   b ← field 1
-  check (nat_lt (b % 128) count) MarkRange
-  pure (record { mark = b % 128; negated = nat_le 128 b })
+  check (nat_lt (b % not_bit) count) MarkRange
+  pure (record { mark = b % not_bit; negated = nat_le not_bit b })
 
 -- a literal byte, and two bytes for its weight
 unfoldable pub element : Count → Parser Element
@@ -30,22 +32,22 @@ element count = do
   w ← field 2
   pure (record { literal = l; weight = w })
 
--- 4,294,967,295 stands for no high bound
+-- the high bound, if there is one
 abbrev pub high_of : ℕ → Option ℕ
-high_of n = cond (n == 4294967295) None (Some n)
+high_of n = cond (n == no_high) None (Some n)
 
 -- the low bound, the high bound, the number of elements, the elements
 unfoldable pub constraint : Count → Parser ConstraintModel
 constraint count = do
   low ← field 4
   high ← field 4
-  n ← within 0 32
+  n ← within 0 most_elements
   es ← times n (element count)
   pure (record { low = low; high = high_of high; elements = es })
 
 -- two bytes as a signed number
 abbrev pub signed : ℕ → ℤ
-signed n = cond (nat_lt n 32768) (pos n) (negsuc (65535 - n))
+signed n = cond (nat_lt n (2 ^ 15)) (pos n) (negsuc (2 ^ 16 - 1 - n))
 
 -- a field of two bytes, read so
 unfoldable pub signed_field : Parser ℤ
@@ -53,17 +55,21 @@ signed_field = do
   n ← field 2
   pure (signed n)
 
--- eight bytes, bit i for mark i
-abbrev pub sheet_field : Parser Sheet
-sheet_field = field 8
+-- how many bytes a sheet field has, by the count: so many, whatever it is
+abbrev pub sheet_length : Count → ℕ
+sheet_length count = sheet_bytes
+
+-- so many bytes, bit i for mark i
+abbrev pub sheet_field : Count → Parser Sheet
+sheet_field count = field (sheet_length count)
 
 -- ---- bodies, by kind: the fields in their order, and no byte after them
 
--- kind 1: the count of marks, and the house sheet
+-- kind 1: the count of marks, and the house sheet, whose length is by this count
 unfoldable pub head_fields : Parser (Count × Sheet)
 head_fields = do
   count ← within 1 width
-  house ← sheet_field
+  house ← sheet_field count
   check (nat_lt house (2 ^ count)) MarkRange
   pure (count, house)
 
@@ -74,7 +80,7 @@ head_body = wholly head_fields
 -- kind 2: the number of body constraints, the head constraint, the body constraints
 unfoldable pub rule_fields : Count → Parser RuleModel
 rule_fields count = do
-  n ← within 0 8
+  n ← within 0 most_constraints
   h ← constraint count
   ks ← times n (constraint count)
   pure (record { head = h; body = ks })
@@ -86,7 +92,7 @@ rule_body count = wholly (rule_fields count)
 -- kind 3: the number of literals, the literals
 unfoldable pub clause_fields : Count → Parser (List Literal)
 clause_fields count = do
-  n ← within 0 32
+  n ← within 0 most_clause_literals
   times n (literal count)
 
 -- the same, to the last byte of the body
@@ -96,10 +102,10 @@ clause_body count = wholly (clause_fields count)
 -- kind 4: level, weight, the number of literals, the literals
 unfoldable pub wish_fields : Count → Parser WishModel
 wish_fields count = do
-  level ← within 1 8
+  level ← within 1 top_level
   w ← signed_field
   check (is_weight w) OutOfRange
-  n ← within 1 16
+  n ← within 1 most_wish_literals
   ls ← times n (literal count)
   pure (record { level = level; weight = w; literals = ls })
 
@@ -107,21 +113,21 @@ wish_fields count = do
 unfoldable pub wish_body : Count → Parser WishModel
 wish_body count = wholly (wish_fields count)
 
--- an act by its code, from 1 to 4
-unfoldable pub act_of : ℕ → Parser Act
-act_of code =
+-- an act by its code, from 1 to `most_code`
+unfoldable pub act_of : Count → ℕ → Parser Act
+act_of count code =
     cond (code == 1) (field 1 >>= λ m. pure (Pin m))
     (cond (code == 2) (field 1 >>= λ m. pure (Bar m))
-    (cond (code == 3) (sheet_field >>= λ s. pure (Strike s))
+    (cond (code == 3) (sheet_field count >>= λ s. pure (Strike s))
     (pure Undo)))
 
 -- kind 5: the code, and its mark or sheet
-unfoldable pub act_fields : Parser Act
-act_fields = within 1 4 >>= act_of
+unfoldable pub act_fields : Count → Parser Act
+act_fields count = within 1 most_code >>= act_of count
 
 -- the same, to the last byte of the body
-unfoldable pub act_body : Parser Act
-act_body = wholly act_fields
+unfoldable pub act_body : Count → Parser Act
+act_body count = wholly (act_fields count)
 
 -- ---- records
 
@@ -129,19 +135,18 @@ act_body = wholly act_fields
 unfoldable pub cut : Parser (ℕ × List ℕ)
 cut = do
   size ← bytes 4 RecordCut
-  check (nat_le 2 (little size) && nat_le (little size) most_length) LengthRange
+  check (is_length (little size)) LengthRange
   block ← bytes (little size) LengthPastEnd
   pure (little (take 2 block), drop 2 block)
 
--- the kind of a number, from 1 to 5
+-- the first of the kinds that has the number
+abbrev pub numbered : List Kind → ℕ → Result Kind Refusal
+numbered [] n = Err UnknownKind
+numbered (k ∷ ks) n = cond (n == kind_number k) (Ok k) (numbered ks n)
+
+-- the kind of a number
 abbrev pub kind_of : ℕ → Result Kind Refusal
-kind_of n =
-    cond (n == 1) (Ok Head)
-    (cond (n == 2) (Ok Rule)
-    (cond (n == 3) (Ok Clause)
-    (cond (n == 4) (Ok Wish)
-    (cond (n == 5) (Ok ActKind)
-    (Err UnknownKind)))))
+kind_of = numbered all_kinds
 
 -- where n of a kind are read, one more may be, up to `most_of_kind`
 abbrev pub room_at : ℕ → Result (Unit {0}) Refusal
@@ -156,38 +161,27 @@ adding n p put = do
 
 -- a file with nothing but its head
 abbrev pub head_alone : Count × Sheet → FileModel
-head_alone h = record { count = h.0; house = h.1; rules = []; clauses = []; wishes = []; acts = []; order = [] }
-
--- the file with one more of a kind, behind those that it has
-abbrev pub with_rule : FileModel → RuleModel → FileModel
-with_rule f r = record { count = f.count; house = f.house; rules = f.rules ++ r ∷ []; clauses = f.clauses; wishes = f.wishes; acts = f.acts; order = f.order ++ Rule ∷ [] }
-
-abbrev pub with_clause : FileModel → List Literal → FileModel
-with_clause f k = record { count = f.count; house = f.house; rules = f.rules; clauses = f.clauses ++ k ∷ []; wishes = f.wishes; acts = f.acts; order = f.order ++ Clause ∷ [] }
-
-abbrev pub with_wish : FileModel → WishModel → FileModel
-with_wish f w = record { count = f.count; house = f.house; rules = f.rules; clauses = f.clauses; wishes = f.wishes ++ w ∷ []; acts = f.acts; order = f.order ++ Wish ∷ [] }
-
-abbrev pub with_act : FileModel → Act → FileModel
-with_act f a = record { count = f.count; house = f.house; rules = f.rules; clauses = f.clauses; wishes = f.wishes; acts = f.acts ++ a ∷ []; order = f.order ++ ActKind ∷ [] }
+head_alone h = record { count = h.0; house = h.1; rules = []; clauses = []; wishes = []; acts = []; kinds = [] }
 
 -- the first record, by its kind, from its body: a head
 unfoldable pub first_body : Kind → Parser FileModel
 first_body Head = do
   h ← head_body
   pure (head_alone h)
-first_body Rule = refuse HeadMisplaced
-first_body Clause = refuse HeadMisplaced
-first_body Wish = refuse HeadMisplaced
-first_body ActKind = refuse HeadMisplaced
+first_body k = refuse HeadMisplaced
 
--- a later record, by its kind, from its body
+-- the body of a later record, by its kind: a head is refused
+abbrev pub body_of : (k : Kind) → Count → Parser (Item k)
+body_of Head count = refuse HeadMisplaced
+body_of Rule count = rule_body count
+body_of Clause count = clause_body count
+body_of Wish count = wish_body count
+body_of ActKind count = act_body count
+
+-- a later record, by its kind, from its body: one more of this kind, but for a head
 unfoldable pub later_body : FileModel → Kind → Parser FileModel
 later_body f Head = refuse HeadMisplaced
-later_body f Rule = adding (length f.rules) (rule_body f.count) (with_rule f)
-later_body f Clause = adding (length f.clauses) (clause_body f.count) (with_clause f)
-later_body f Wish = adding (length f.wishes) (wish_body f.count) (with_wish f)
-later_body f ActKind = adding (length f.acts) act_body (with_act f)
+later_body f k = adding (length (list_of k f)) (body_of k f.count) (with_one k f)
 
 -- the first record, by the number of its kind
 unfoldable pub first : ℕ → Parser FileModel

@@ -4,8 +4,12 @@ use Rattle.std.specs.List.{flat_map, AllByRecursion}
 use Rattle.sheets.specs.Sheets.{Count, width, MarksBelow}
 use Rattle.sheets.specs.declared.literals.Literal.{Literal}
 use Rattle.rulefile.specs.declared.constraints.Element.{Element}
+use Rattle.rulefile.specs.declared.records.Kind.{Kind}
+use Rattle.rulefile.specs.declared.records.Kind.TheVariants.{Head, Rule, Clause, Wish, Act}
+use Rattle.rulefile.specs.Numbers.{kind_number}
 use Rattle.rulefile.specs.Ranges.{most_bytes, most_length, most_of_kind}
 use Rattle.rulefile.specs.Model.{ConstraintModel, RuleModel, WishModel, FileModel}
+use Rattle.rulefile.specs.Lists.{Item}
 use Rattle.rulefile.specs.Parser.{Parser, took, little}
 use Rattle.rulefile.specs.Format.{head_body, rule_body, clause_body, wish_body, act_body, kind_of}
 
@@ -31,7 +35,7 @@ abbrev pub lengths : List RecordBytes → ℕ
 lengths [] = 0
 lengths (r ∷ rs) = 4 + little r.size + lengths rs
 
--- the bodies of the records of kind k, in file order
+-- the bodies of the records whose kind has the number k, in file order
 abbrev pub bodies_of : ℕ → List RecordBytes → List (List ℕ)
 bodies_of k [] = []
 bodies_of k (r ∷ rs) = cond (little r.kind == k) (r.body ∷ bodies_of k rs) (bodies_of k rs)
@@ -51,6 +55,14 @@ ConstraintBelow n k = AllByRecursion (λ (e : Element). e.literal.mark < n) k.el
 -- every mark of the head and of the body is below n
 abbrev pub RuleBelow : Count → RuleModel → Type 0
 RuleBelow n r = ConstraintBelow n r.head × AllByRecursion (ConstraintBelow n) r.body
+
+-- what is kept of a record, by its kind: its marks are below n; of the marks of acts nothing is said
+abbrev pub ItemBelow : (k : Kind) → Count → Item k → Type 0
+ItemBelow Head n x = ⊥
+ItemBelow Rule n r = RuleBelow n r
+ItemBelow Clause n k = LiteralsBelow n k
+ItemBelow Wish n w = LiteralsBelow n w.literals
+ItemBelow Act n a = Unit {0}
 
 -- the limits of a file: the count is from 1 to the width, the marks of the house sheet, of rules, clauses and wishes are
 -- below it, and there are at most `most_of_kind` of a kind; of the marks of acts nothing is said
@@ -76,15 +88,15 @@ pub record Accepted (bytes : List ℕ) (f : FileModel) : Type 0 where
   pub adds_up : length bytes ≡ lengths (head ∷ later)
   pub short : length bytes ≤ most_bytes
   -- the first record is the head, and no other is
-  pub first : little head.kind ≡ 1
-  pub only : AllByRecursion (λ r. little r.kind ≢ 1) later
+  pub first : little head.kind ≡ kind_number Head
+  pub only : AllByRecursion (λ r. little r.kind ≢ kind_number Head) later
   -- each record says its part, and the parts of a kind come in file order
   pub says : head_body head.body ≡ took (f.count, f.house) []
-  pub rules : Say (rule_body f.count) (bodies_of 2 later) f.rules
-  pub clauses : Say (clause_body f.count) (bodies_of 3 later) f.clauses
-  pub wishes : Say (wish_body f.count) (bodies_of 4 later) f.wishes
-  pub acts : Say act_body (bodies_of 5 later) f.acts
-  pub order : map (λ r. kind_of (little r.kind)) later ≡ map Ok f.order
+  pub rules : Say (rule_body f.count) (bodies_of (kind_number Rule) later) f.rules
+  pub clauses : Say (clause_body f.count) (bodies_of (kind_number Clause) later) f.clauses
+  pub wishes : Say (wish_body f.count) (bodies_of (kind_number Wish) later) f.wishes
+  pub acts : Say (act_body f.count) (bodies_of (kind_number Act) later) f.acts
+  pub kinds : map (λ r. kind_of (little r.kind)) later ≡ map Ok f.kinds
   -- each number and mark keeps its limit
   pub fits : Fits f
   pub house : MarksBelow f.count f.house

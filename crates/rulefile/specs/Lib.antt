@@ -1,7 +1,8 @@
+pub mod Ranges
 pub mod Numbers
 pub mod Words
-pub mod Ranges
 pub mod Model
+pub mod Lists
 pub mod Uniform
 pub mod Limits
 pub mod Parser

@@ -1,11 +1,15 @@
 -- The limits that every file keeps, as tests.
-use Rattle.std.specs.Prelude.{◌^◌, Bool, ◌&&◌, List, length, nat_le, nat_lt}
+use Rattle.std.specs.Prelude.{◌^◌, Bool, true, ◌&&◌, List, length, nat_le, nat_lt}
 use Rattle.std.specs.List.{list_all}
 use Rattle.sheets.specs.Sheets.{Count, width}
 use Rattle.sheets.specs.declared.literals.Literal.{Literal}
 use Rattle.rulefile.specs.declared.constraints.Element.{Element}
+use Rattle.rulefile.specs.declared.records.Kind.{Kind}
+use Rattle.rulefile.specs.declared.records.Kind.TheVariants.{Head, Rule, Clause, Wish, Act}
 use Rattle.rulefile.specs.Ranges.{most_of_kind}
-use Rattle.rulefile.specs.Model.{ConstraintModel, RuleModel, WishModel, FileModel}
+use Rattle.rulefile.specs.Numbers.{all_kinds}
+use Rattle.rulefile.specs.Lists.{Item, list_of}
+use Rattle.rulefile.specs.Model.{ConstraintModel, RuleModel, FileModel}
 
 -- the marks of all literals are below n
 abbrev pub literals_below : Count → List Literal → Bool
@@ -19,18 +23,18 @@ constraint_below n k = list_all (λ (e : Element). nat_lt e.literal.mark n) k.el
 abbrev pub rule_below : Count → RuleModel → Bool
 rule_below n r = constraint_below n r.head && list_all (constraint_below n) r.body
 
--- at most `most_of_kind`
-abbrev pub is_few : {A : Type 0} → List A → Bool
-is_few xs = nat_le (length xs) most_of_kind
+-- the marks of what a record of the kind says are below n; those of acts are not tested
+abbrev pub item_below : (k : Kind) → Count → Item k → Bool
+item_below Head n x = absurd x
+item_below Rule n r = rule_below n r
+item_below Clause n k = literals_below n k
+item_below Wish n w = literals_below n w.literals
+item_below Act n a = true
 
--- the count is from 1 to the width, each mark of the house sheet, of a rule, a clause or a wish is below it, and there are
--- at most `most_of_kind` of a kind
+-- the list of the kind has such items, and at most `most_of_kind`
+abbrev pub is_list_fit : FileModel → Kind → Bool
+is_list_fit f k = list_all (item_below k f.count) (list_of k f) && nat_le (length (list_of k f)) most_of_kind
+
+-- the count is from 1 to the width, each mark of the house sheet is below it, and each list is fit
 unfoldable pub is_fit : FileModel → Bool
-is_fit f =
-    nat_le 1 f.count
-    && (nat_le f.count width
-    && (nat_lt f.house (2 ^ f.count)
-    && (list_all (rule_below f.count) f.rules
-    && (list_all (literals_below f.count) f.clauses
-    && (list_all (λ (w : WishModel). literals_below f.count w.literals) f.wishes
-    && (is_few f.rules && (is_few f.clauses && (is_few f.wishes && is_few f.acts))))))))
+is_fit f = nat_le 1 f.count && (nat_le f.count width && (nat_lt f.house (2 ^ f.count) && list_all (is_list_fit f) all_kinds))

@@ -35,7 +35,7 @@ pub record FileModel : Type 0 where
   pub clauses : List (List Literal)
   pub wishes : List WishModel
   pub acts : List Act
-  pub order : List Kind
+  pub kinds : List Kind
 
 -- ---- the model of each value
 -- a constraint, without its list's memory
@@ -56,12 +56,12 @@ wish_of w = record { level = w.level; weight = w.weight; literals = vec_items w.
 
 -- a file, from its count, its house sheet and its lists
 abbrev pub model_of : Count → Sheet → List Rule → List Clause → List Wish → List Act → List Kind → FileModel
-model_of n house rules clauses wishes acts order = record {
+model_of n house rules clauses wishes acts kinds = record {
   count = n;
   house = house;
   rules = map rule_of rules;
   clauses = map clause_of clauses;
   wishes = map wish_of wishes;
   acts = acts;
-  order = order;
+  kinds = kinds;
 }

@@ -1,25 +1,43 @@
 // The fields of a record's body, read one after another.
-ghost use Rattle.std.specs.Prelude.{◌≡◌, ◌≤◌, ℕ, List, [], map, vec_items};
+ghost use Rattle.std.specs.Prelude.{◌≡◌, ◌≤◌, ℕ, List, [], length, map, vec_items};
 ghost use Rattle.sheets.specs.Sheets.{width};
 ghost use Rattle.sheets.specs.declared.literals.Literal.{Literal};
-ghost use Rattle.rulefile.specs.Ranges.{is_weight};
+ghost use Rattle.rulefile.specs.Ranges.{is_weight, sheet_bytes};
 ghost use Rattle.rulefile.specs.declared.constraints.Element.{Element};
 ghost use Rattle.rulefile.specs.declared.records.Act.{Act};
 ghost use Rattle.rulefile.specs.Model.{ConstraintModel, RuleModel, WishModel, constraint_of, rule_of, clause_of, wish_of};
-ghost use Rattle.rulefile.specs.Parser.{Parser, bytes as bytes_spec, within as within_spec, times, end as end_spec, wholly, parsed};
-ghost use Rattle.rulefile.specs.Format.{literal as literal_spec, element as element_spec, constraint as constraint_spec, high_of, act_fields, head_fields, rule_fields, clause_fields, wish_fields};
+ghost use Rattle.rulefile.specs.Parser.{Parser, little, bytes as bytes_spec, within as within_spec, times, end as end_spec, wholly, parsed};
+ghost use Rattle.rulefile.specs.Format.{literal as literal_spec, element as element_spec, constraint as constraint_spec, high_of, sheet_length, sheet_field, act_fields, head_fields, rule_fields, clause_fields, wish_fields};
 ghost use Rattle.rulefile.specs.Answers.{Parses};
 
 use crate::constraints::{Constraint, Element};
+use crate::limits::{
+    MOST_CLAUSE_LITERALS, MOST_CODE, MOST_CONSTRAINTS, MOST_ELEMENTS, MOST_MARKS, MOST_WEIGHT,
+    MOST_WISH_LITERALS, NO_HIGH, NOT, SHEET_BYTES, TOP_LEVEL,
+};
 use crate::records::{Act, Clause, Head, Rule};
 use crate::refusals::{Fault, Refusal};
 use crate::uniform::Uniform;
 use crate::wishes::Wish;
-use sheets::{Literal, LiteralSet, WIDTH, within_count};
+use sheets::{Literal, LiteralSet, Sheet, within_count};
 use std::alloc::Global;
 
-// Stands for no high bound.
-const NO_HIGH: u32 = 4_294_967_295;
+// How many bytes a sheet field has where there are so many marks. All that read one ask here.
+fn sheet_length(_count: u8) -> usize
+    ensures { result ≡ sheet_length _count }
+{
+    SHEET_BYTES
+}
+
+// The sheet of at most so many bytes, the lowest first.
+fn sheet_of(bytes: &[u8]) -> Sheet
+    requires { length bytes.now ≤ sheet_bytes }
+    ensures { result ≡ little bytes.now }
+{
+    let mut word = [0; SHEET_BYTES];
+    word[..bytes.len()].copy_from_slice(bytes);
+    Sheet::from_le_bytes(word)
+}
 
 // What is left of a body whose marks are below `count`, and the memory for what is read of it.
 #[derive(Drop)]
@@ -58,6 +76,19 @@ impl<'a> Body<'a> {
         };
         self.rest = rest;
         Ok(*bytes)
+    }
+
+    // A sheet of marks below the count, which is an argument since a head says it.
+    #[tactic(auto, unfolding(crate::specs::Parser::field))]
+    fn sheet(&mut self, count: u8) -> Result<Sheet, Refusal>
+        ensures parses { sheet_field count self.old.rest.now ≡ parsed result self.new.rest.now }
+        ensures kept { self.new.count ≡ self.old.count }
+    {
+        let Some((bytes, rest)) = self.rest.split_at_checked(sheet_length(count)) else {
+            return Err(Refusal::BodyLength);
+        };
+        self.rest = rest;
+        Ok(sheet_of(bytes))
     }
 
     // A one-byte number from `low` to `high`.
@@ -117,13 +148,13 @@ impl Field for Literal {
 
     fn read(body: &mut Body<'_>) -> Result<Literal, Fault> {
         let [b] = body.bytes::<1>()?;
-        let mark = b % 128;
+        let mark = b % NOT;
         if mark >= body.count {
             return Err(Fault::Bad(Refusal::MarkRange));
         }
         Ok(Literal {
             mark,
-            negated: b >= 128,
+            negated: b >= NOT,
         })
     }
 }
@@ -154,7 +185,7 @@ impl Field for Constraint {
     fn read(body: &mut Body<'_>) -> Result<Constraint, Fault> {
         let low = u32::from_le_bytes(body.bytes()?);
         let top = u32::from_le_bytes(body.bytes()?);
-        let n = body.within(0, 32)?;
+        let n = body.within(0, MOST_ELEMENTS)?;
         let elements: Vec<Element> = body.several(n)?;
         let uniform = Uniform::of(&elements);
         Ok(Constraint {
@@ -173,7 +204,7 @@ fn high_of(top: u32) -> Option<u32>
     if top == NO_HIGH { None } else { Some(top) }
 }
 
-#[tactic(auto, using(crate::proofs::Fields::little_of_8), unfolding(crate::specs::Format::head_fields, crate::specs::Parser::field))]
+#[tactic(auto, unfolding(crate::specs::Format::head_fields))]
 impl Field for Head {
     ghost Meaning = { ℕ × ℕ };
 
@@ -182,8 +213,8 @@ impl Field for Head {
     ghost parser = { λ _. head_fields };
 
     fn read(body: &mut Body<'_>) -> Result<Head, Fault> {
-        let count = body.within(1, WIDTH)?;
-        let house = u64::from_le_bytes(body.bytes()?);
+        let count = body.within(1, MOST_MARKS)?;
+        let house = body.sheet(count)?;
         if !within_count(house, count) {
             return Err(Fault::Bad(Refusal::MarkRange));
         }
@@ -200,7 +231,7 @@ impl Field for Rule {
     ghost parser = { rule_fields };
 
     fn read(body: &mut Body<'_>) -> Result<Rule, Fault> {
-        let n = body.within(0, 8)?;
+        let n = body.within(0, MOST_CONSTRAINTS)?;
         let head = Constraint::read(body)?;
         let constraints = body.several(n)?;
         Ok(Rule {
@@ -219,7 +250,7 @@ impl Field for Clause {
     ghost parser = { clause_fields };
 
     fn read(body: &mut Body<'_>) -> Result<Clause, Fault> {
-        let n = body.within(0, 32)?;
+        let n = body.within(0, MOST_CLAUSE_LITERALS)?;
         let literals: Vec<Literal> = body.several(n)?;
         let set = LiteralSet::of(&literals);
         Ok(Clause { literals, set })
@@ -230,7 +261,7 @@ impl Field for Clause {
 fn weight_fits(weight: i16) -> bool
     ensures { result ≡ is_weight weight }
 {
-    (-10_000..=10_000).contains(&weight)
+    (-MOST_WEIGHT..=MOST_WEIGHT).contains(&weight)
 }
 
 #[tactic(auto, using(crate::proofs::Fields::little_of_2), unfolding(crate::specs::Format::wish_fields, crate::specs::Parser::field, crate::specs::Format::signed_field))]
@@ -242,12 +273,12 @@ impl Field for Wish {
     ghost parser = { wish_fields };
 
     fn read(body: &mut Body<'_>) -> Result<Wish, Fault> {
-        let level = body.within(1, 8)?;
+        let level = body.within(1, TOP_LEVEL)?;
         let weight = i16::from_le_bytes(body.bytes()?);
         if !weight_fits(weight) {
             return Err(Fault::Bad(Refusal::OutOfRange));
         }
-        let n = body.within(1, 16)?;
+        let n = body.within(1, MOST_WISH_LITERALS)?;
         let literals: Vec<Literal> = body.several(n)?;
         let set = LiteralSet::of(&literals);
         Ok(Wish {
@@ -259,17 +290,17 @@ impl Field for Wish {
     }
 }
 
-#[tactic(auto, using(crate::proofs::Fields::little_of_1, crate::proofs::Fields::little_of_8), unfolding(crate::specs::Format::act_fields, crate::specs::Parser::field, crate::specs::Format::act_of))]
+#[tactic(auto, using(crate::proofs::Fields::little_of_1), unfolding(crate::specs::Format::act_fields, crate::specs::Parser::field, crate::specs::Format::act_of))]
 impl Field for Act {
     ghost Meaning = { Act };
 
     ghost meaning = { λ a. a };
 
-    ghost parser = { λ _. act_fields };
+    ghost parser = { act_fields };
 
     fn read(body: &mut Body<'_>) -> Result<Act, Fault> {
         // The number goes no further, so no enum is made of it.
-        let code = body.within(1, 4)?;
+        let code = body.within(1, MOST_CODE)?;
         match code {
             1 => {
                 let [mark] = body.bytes::<1>()?;
@@ -279,7 +310,7 @@ impl Field for Act {
                 let [mark] = body.bytes::<1>()?;
                 Ok(Act::Bar(mark))
             }
-            3 => Ok(Act::Strike(u64::from_le_bytes(body.bytes()?))),
+            3 => Ok(Act::Strike(body.sheet(body.count)?)),
             _ => Ok(Act::Undo),
         }
     }

@@ -1,6 +1,7 @@
 // Weight constraints.
 ghost use Rattle.std.specs.Prelude.{◌≡◌, ◌≤◌, vec_len, vec_items, Some};
 ghost use Rattle.rulefile.specs.declared.uniform.Uniform.{Uniform};
+ghost use Rattle.rulefile.specs.Ranges.{most_elements};
 ghost use Rattle.rulefile.specs.Uniform.{AreUniform};
 
 use crate::uniform::Uniform;
@@ -23,8 +24,8 @@ pub struct Constraint {
     pub elements: Vec<Element>,
     // The elements again, where they weigh the same.
     pub(crate) uniform: Option<Uniform>,
-    // A constraint has at most 32 elements.
-    ghost few: { vec_len elements ≤ 32 },
+    // A constraint has at most `MOST_ELEMENTS` elements.
+    ghost few: { vec_len elements ≤ most_elements },
     // What `uniform` has is what `elements` has.
     ghost alike: { (u : Uniform) → uniform ≡ Some u → AreUniform (vec_items elements) u },
 }

@@ -20,7 +20,7 @@ pub struct Draft {
     pub(crate) clauses: Vec<Clause>,
     pub(crate) wishes: Vec<Wish>,
     pub(crate) acts: Vec<Act>,
-    pub(crate) order: Vec<Kind>,
+    pub(crate) kinds: Vec<Kind>,
     // The count is at most the number of marks.
     ghost few: { count ≤ width },
 }

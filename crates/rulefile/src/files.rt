@@ -23,7 +23,7 @@ pub struct RuleFile {
     // The calls with which an order begins.
     pub acts: Vec<Act>,
     // The kinds of all records after the head.
-    pub order: Vec<Kind>,
+    pub kinds: Vec<Kind>,
     // The limits of a file.
-    ghost fit: { is_fit (model_of count house rules.items clauses.items wishes.items acts.items order.items) ≡ true },
+    ghost fit: { is_fit (model_of count house rules.items clauses.items wishes.items acts.items kinds.items) ≡ true },
 }

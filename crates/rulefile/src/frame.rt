@@ -1,9 +1,10 @@
 // One record, cut off the bytes of a file.
-ghost use Rattle.std.specs.Prelude.{◌≡◌, ◌<◌, ◌&&◌, length, Err, nat_le};
-ghost use Rattle.rulefile.specs.Ranges.{most_length};
+ghost use Rattle.std.specs.Prelude.{◌≡◌, ◌<◌, length, Err};
+ghost use Rattle.rulefile.specs.Ranges.{is_length};
 ghost use Rattle.rulefile.specs.Format.{cut as cut_spec};
 ghost use Rattle.rulefile.specs.Answers.{parsed_record, Shorter};
 
+use crate::limits::{LEAST_LENGTH, MOST_LENGTH};
 use crate::refusals::Refusal;
 
 // A record: the number of its kind, its body, and the bytes after it. A number: it may be no kind's, which is refused later.
@@ -16,9 +17,9 @@ pub struct Record<'a> {
 
 // A record can say this length.
 fn length_fits(n: u32) -> bool
-    ensures { result ≡ (nat_le 2 n && nat_le n most_length) }
+    ensures { result ≡ is_length n }
 {
-    (2..=1024).contains(&n)
+    (LEAST_LENGTH..=MOST_LENGTH).contains(&n)
 }
 
 // Why fewer than six bytes are no record.
@@ -50,7 +51,7 @@ pub(crate) fn cut(bytes: &[u8]) -> Result<Record<'_>, Refusal>
     if !length_fits(n) {
         return Err(Refusal::LengthRange);
     }
-    let size = n as usize - 2;
+    let size = (n - LEAST_LENGTH) as usize;
     if size > rest.len() {
         return Err(Refusal::LengthPastEnd);
     }

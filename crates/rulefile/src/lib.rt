@@ -7,6 +7,7 @@ mod draft;
 mod files;
 mod frame;
 mod inputs;
+pub mod limits;
 mod reader;
 mod records;
 mod refusals;

@@ -10,15 +10,10 @@ use crate::body::{Body, Field};
 use crate::draft::Draft;
 use crate::files::RuleFile;
 use crate::frame::cut;
+use crate::limits::{MOST_BYTES, MOST_OF_KIND};
 use crate::records::{Head, Kind};
 use crate::refusals::{Fault, ReadError, Refusal};
 use std::alloc::{AllocError, Global};
-
-// How many bytes a file can have.
-const MOST_BYTES: usize = 32_768;
-
-// How many records of one kind a file can have.
-const MOST_OF_KIND: usize = 256;
 
 // Whether one more of a kind may be read, where `n` are.
 fn room(n: usize) -> Result<(), Refusal>
@@ -53,7 +48,7 @@ impl Draft {
             clauses: Vec::new(heap),
             wishes: Vec::new(heap),
             acts: Vec::new(heap),
-            order: Vec::new(heap),
+            kinds: Vec::new(heap),
         }
     }
 
@@ -94,7 +89,7 @@ impl Draft {
             Kind::Wish => add_to(&mut self.wishes, body)?,
             Kind::Act => add_to(&mut self.acts, body)?,
         }
-        self.order.push(kind)?;
+        self.kinds.push(kind)?;
         Ok(())
     }
 
@@ -122,7 +117,7 @@ impl Draft {
             clauses,
             wishes,
             acts,
-            order,
+            kinds,
         } = self;
         RuleFile {
             count,
@@ -131,7 +126,7 @@ impl Draft {
             clauses,
             wishes,
             acts,
-            order,
+            kinds,
         }
     }
 }

@@ -4,6 +4,8 @@ ghost use Rattle.std.specs.List.{list_any};
 ghost use Rattle.sheets.specs.Sheets.{width};
 ghost use Rattle.sheets.specs.Literals.{held};
 ghost use Rattle.sheets.specs.LiteralSets.{Stands};
+ghost use Rattle.rulefile.specs.Ranges.{most_constraints, most_clause_literals};
+ghost use Rattle.rulefile.specs.Numbers.{kind_number};
 
 use crate::constraints::Constraint;
 use crate::refusals::Refusal;
@@ -13,15 +15,35 @@ use sheets::{Interpretation, Literal, LiteralSet, Mark, Sheet};
 #[derive(Clone, Copy, Debug, PartialEq, Eq)]
 pub enum Kind {
     // The count of marks and the house sheet.
-    Head,
+    Head = 1,
     // A rule of the book.
-    Rule,
+    Rule = 2,
     // A clause of the printer's list.
-    Clause,
+    Clause = 3,
     // A wish of the shop.
-    Wish,
+    Wish = 4,
     // A call on the acts of an order.
-    Act,
+    Act = 5,
+}
+
+// The numbers of the kinds, to match.
+const HEAD: u16 = Kind::Head as u16;
+
+const RULE: u16 = Kind::Rule as u16;
+
+const CLAUSE: u16 = Kind::Clause as u16;
+
+const WISH: u16 = Kind::Wish as u16;
+
+const ACT: u16 = Kind::Act as u16;
+
+impl Kind {
+    // The number by which a file knows the kind.
+    pub fn number(self) -> u16
+        ensures { result ≡ kind_number self }
+    {
+        self as u16
+    }
 }
 
 impl TryFrom<u16> for Kind {
@@ -34,11 +56,11 @@ impl TryFrom<u16> for Kind {
 
     fn try_from(code: u16) -> Result<Kind, Refusal> {
         match code {
-            1 => Ok(Kind::Head),
-            2 => Ok(Kind::Rule),
-            3 => Ok(Kind::Clause),
-            4 => Ok(Kind::Wish),
-            5 => Ok(Kind::Act),
+            HEAD => Ok(Kind::Head),
+            RULE => Ok(Kind::Rule),
+            CLAUSE => Ok(Kind::Clause),
+            WISH => Ok(Kind::Wish),
+            ACT => Ok(Kind::Act),
             _ => Err(Refusal::UnknownKind),
         }
     }
@@ -47,7 +69,7 @@ impl TryFrom<u16> for Kind {
 // The count of marks, and the house sheet.
 #[derive(Clone, Copy, Debug, PartialEq, Eq)]
 pub struct Head {
-    // From 1 to `WIDTH`.
+    // From 1 to `MOST_MARKS`.
     pub count: u8,
     // Of marks below the count.
     pub house: Sheet,
@@ -60,8 +82,8 @@ pub struct Head {
 pub struct Rule {
     pub head: Constraint,
     pub body: Vec<Constraint>,
-    // A rule has at most 8 body constraints.
-    ghost few: { vec_len body ≤ 8 },
+    // A rule has at most `MOST_CONSTRAINTS` body constraints.
+    ghost few: { vec_len body ≤ most_constraints },
 }
 
 // At least one of the literals holds.
@@ -70,8 +92,8 @@ pub struct Clause {
     pub literals: Vec<Literal>,
     // The literals again.
     pub(crate) set: LiteralSet,
-    // A clause has at most 32 literals.
-    ghost few: { vec_len literals ≤ 32 },
+    // A clause has at most `MOST_CLAUSE_LITERALS` literals.
+    ghost few: { vec_len literals ≤ most_clause_literals },
     // The set stands for the literals.
     ghost same: { Stands set.plain set.nots (vec_items literals) },
 }

@@ -5,6 +5,8 @@ ghost use Rattle.rulefile.specs.Words.{refusal_words, bad_file_words, read_error
 ghost use Rattle.std.specs.declared.alloc.AllocError.{AllocError};
 ghost use Rattle.rulefile.specs.declared.refusals.Fault.TheVariants.{Bad, Memory};
 
+use crate::limits::{LEAST_LENGTH, MOST_BYTES, MOST_LENGTH, MOST_OF_KIND};
+use crate::records::Kind;
 use std::alloc::{AllocError, AllocFailed};
 use std::error::Error;
 use std::fmt;
@@ -12,19 +14,19 @@ use std::fmt;
 // Why a file is refused.
 #[derive(Clone, Copy, Debug, PartialEq, Eq)]
 pub enum Refusal {
-    // The file has more than 32,768 bytes.
+    // The file has more than `MOST_BYTES` bytes.
     FileTooLong = 10,
     // One to three bytes are left for a record, or the file is empty.
     RecordCut = 11,
-    // A record's length is not from 2 to 1,024.
+    // A record's length is not from `LEAST_LENGTH` to `MOST_LENGTH`.
     LengthRange = 12,
     // A record's length exceeds the bytes left after it.
     LengthPastEnd = 13,
-    // A record's kind is not from 1 to 5.
+    // A record's kind has the number of none.
     UnknownKind = 14,
     // The first record is not a head, or a later one is.
     HeadMisplaced = 15,
-    // The record is the 257th of its kind.
+    // There are `MOST_OF_KIND` records of this kind before it.
     TooManyOfKind = 16,
     // A body ends before a field, or goes on after its last.
     BodyLength = 17,
@@ -48,20 +50,39 @@ impl fmt::Display for Refusal {
     ghost output = { λ why. Some (refusal_words why) };
 
     fn fmt<W: fmt::Write>(&self, f: &mut fmt::Formatter<W>) -> fmt::Result {
-        f.write_str(match self {
-            Refusal::FileTooLong => "the file is longer than 32768 bytes",
-            Refusal::RecordCut =>
+        match self {
+            Refusal::FileTooLong => write!(f, "the file is longer than {MOST_BYTES} bytes"),
+            Refusal::RecordCut => f.write_str(
                 "fewer than four bytes are left for a record's length, or the file is empty",
-            Refusal::LengthRange => "a record's length is not from 2 to 1024",
-            Refusal::LengthPastEnd => "a record's length is more than the bytes left after it",
-            Refusal::UnknownKind => "a record's kind is not from 1 to 5",
-            Refusal::HeadMisplaced => "the first record is not a head, or a later one is",
-            Refusal::TooManyOfKind => "there are more than 256 records of this kind",
-            Refusal::BodyLength => "a record's body ends before a field, or goes on after its last",
-            Refusal::OutOfRange => "a number is outside its range",
-            Refusal::MarkRange =>
+            ),
+            Refusal::LengthRange => write!(
+                f,
+                "a record's length is not from {LEAST_LENGTH} to {MOST_LENGTH}"
+            ),
+            Refusal::LengthPastEnd => f.write_str(
+                "a record's length is more than the bytes left after it",
+            ),
+            Refusal::UnknownKind => write!(
+                f,
+                "a record's kind is not from {} to {}",
+                Kind::Head.number(),
+                Kind::Act.number()
+            ),
+            Refusal::HeadMisplaced => f.write_str(
+                "the first record is not a head, or a later one is",
+            ),
+            Refusal::TooManyOfKind => write!(
+                f,
+                "there are more than {MOST_OF_KIND} records of this kind"
+            ),
+            Refusal::BodyLength => f.write_str(
+                "a record's body ends before a field, or goes on after its last",
+            ),
+            Refusal::OutOfRange => f.write_str("a number is outside its range"),
+            Refusal::MarkRange => f.write_str(
                 "a mark of an element or of the house sheet is not below the count",
-        })
+            ),
+        }
     }
 }
 

@@ -3,7 +3,7 @@ ghost use Rattle.std.specs.Prelude.{◌≡◌, ◌≤◌, true, vec_len, vec_ite
 ghost use Rattle.std.specs.List.{list_all};
 ghost use Rattle.sheets.specs.Literals.{held};
 ghost use Rattle.sheets.specs.LiteralSets.{Stands};
-ghost use Rattle.rulefile.specs.Ranges.{is_weight};
+ghost use Rattle.rulefile.specs.Ranges.{is_weight, top_level, most_wish_literals};
 
 use sheets::{Interpretation, Literal, LiteralSet};
 
@@ -15,14 +15,14 @@ pub struct Wish {
     pub literals: Vec<Literal>,
     // The literals again.
     pub(crate) set: LiteralSet,
-    // The level is from 1 to 8.
+    // The level is from 1 to `TOP_LEVEL`.
     ghost low: { 1 ≤ level },
-    ghost high: { level ≤ 8 },
+    ghost high: { level ≤ top_level },
     // The weight is in its range.
     ghost weighed: { is_weight weight ≡ true },
-    // A wish has 1 to 16 literals.
+    // A wish has 1 to `MOST_WISH_LITERALS` literals.
     ghost some: { 1 ≤ vec_len literals },
-    ghost few: { vec_len literals ≤ 16 },
+    ghost few: { vec_len literals ≤ most_wish_literals },
     // The set stands for the literals.
     ghost same: { Stands set.plain set.nots (vec_items literals) },
 }

@@ -93,7 +93,7 @@ fn check_worked(rt: &impl Abort, file: &RuleFile) -> Result<(), Fail> {
     assert_eq!(rt; (file.count, file.house), (4, 0));
     assert_eq!(rt; sizes(file), (1, 0, 1, 2));
     assert_eq!(rt;
-        file.order.as_slice(),
+        file.kinds.as_slice(),
         [Kind::Rule, Kind::Wish, Kind::Act, Kind::Act].as_slice()
     );
     check_worked_records(rt, file)
@@ -112,7 +112,7 @@ fn worked_or_head_alone(rt: HostRuntime) -> Result<(), Fail> {
 
 fn check_head_alone(rt: &impl Abort, file: &RuleFile) {
     assert_eq!(rt; (file.count, file.house), (1, 0));
-    assert_eq!(rt; (sizes(file), file.order.len()), ((0, 0, 0, 0), 0));
+    assert_eq!(rt; (sizes(file), file.kinds.len()), ((0, 0, 0, 0), 0));
 }
 
 // A refused file stands for a head alone, with count 1 and an empty house sheet.
@@ -227,10 +227,10 @@ fn house_sheet(rt: HostRuntime) -> Result<(), Fail> {
     Ok(())
 }
 
-// The order is act, wish, clause, wish, and the wishes have the levels 5 and 3.
+// The kinds are act, wish, clause, wish, and the wishes have the levels 5 and 3.
 fn check_mixed(rt: &impl Abort, file: &RuleFile) -> Result<(), Fail> {
     assert_eq!(rt;
-        file.order.as_slice(),
+        file.kinds.as_slice(),
         [Kind::Act, Kind::Wish, Kind::Clause, Kind::Wish].as_slice()
     );
     let [first, second] = file.wishes.as_slice() else {

@@ -6,6 +6,7 @@ use Rattle.std.specs.List.{list_all, list_any}
 use Rattle.sheets.specs.Sheets.{Sheet, others}
 use Rattle.sheets.specs.Literals.{held, holds}
 use Rattle.total_order.specs.Orders.{first_decides}
+use Rattle.rulefile.specs.Ranges.{top_level}
 use Rattle.rulefile.specs.Model.{WishModel}
 
 -- the weight of the wish, if all its literals hold in the sheet z
@@ -25,7 +26,7 @@ sum_at f (w ∷ ws) n = cond (w.level == n) (f w) (pos 0) +ℤ sum_at f ws n
 
 -- the greatest level
 abbrev pub top : ℕ
-top = 8
+top = top_level
 
 -- what g says of level n, of the level below it, and so on down to level 1
 abbrev pub down_from : ℕ → (ℕ → ℤ) → List ℤ

@@ -3,13 +3,17 @@ ghost use Rattle.std.specs.Prelude.{◌≡◌, Some};
 ghost use Rattle.scales.specs.Wishes.{cost_at};
 ghost use Rattle.scales.specs.Words.{cost_words};
 
+use rulefile::limits::TOP_LEVEL;
 use std::fmt;
 
-// The costs at each level, compared from level 8 down.
+// How many levels there are, as the length of an array.
+pub(crate) const PLACES: usize = TOP_LEVEL as usize;
+
+// The costs at each level, compared from the top level down.
 #[derive(Clone, Copy, Debug, PartialEq, Eq, PartialOrd, Ord)]
 pub struct LevelCost {
-    // From level 8 at place 0 down to level 1 at place 7.
-    pub(crate) levels: [i32; 8],
+    // From the top level at place 0 down to level 1.
+    pub(crate) levels: [i32; PLACES],
 }
 
 impl LevelCost {
@@ -18,7 +22,7 @@ impl LevelCost {
         ensures { result ≡ cost_at self.levels level }
     {
         match level {
-            1..=8 => self.levels[usize::from(8 - level)],
+            1..=TOP_LEVEL => self.levels[usize::from(TOP_LEVEL - level)],
             _ => 0,
         }
     }

@@ -2,6 +2,7 @@ use Rattle.std.proofs.Common.{sym, ap, subst, ◌∙◌, vec_items, arith, w16, 
 use Rattle.std.proofs.lemmas.Int.{to_z-of_z}
 use Rattle.sheets.specs.LiteralSets.{Stands, in_width}
 use Rattle.sheets.proofs.LiteralSets.{all_in_width}
+use Rattle.rulefile.specs.Ranges.{top_level, most_wish_literals}
 use Rattle.rulefile.proofs.Marks.{literals_in_width}
 use Rattle.rulefile.proofs.Sound.{in_range, counted_in_range}
 use Rattle.rulefile.proofs.body.WishField.read.Goals as goal
@@ -10,8 +11,8 @@ pub invariant_of-result : goal.invariant_of-result
 invariant_of-result c =
     let f : SFits w16 c.from_le_bytes-weight.result = search rules in
     let e = simp to_z-of_z at (sym c.weight_fits.ensures ∙ c.if-not-weight_fits.false) in
-    let level = in_range 1 8 _ c.in_ok-level.ensures.parses in
-    let count = counted_in_range 1 16 _ _ _ (λ l. l) (vec_items c.in_ok-literals.literals) c.in_ok-n.ensures.parses c.in_ok-literals.ensures.parses in
+    let level = in_range 1 top_level _ c.in_ok-level.ensures.parses in
+    let count = counted_in_range 1 most_wish_literals _ _ _ (λ l. l) (vec_items c.in_ok-literals.literals) c.in_ok-n.ensures.parses c.in_ok-literals.ensures.parses in
     let marks = literals_in_width _ _ _ _ (vec_items c.in_ok-literals.literals) (c.in_ok-n.ensures.kept ∙ c.in_ok-bytes.ensures.kept ∙ c.in_ok-level.ensures.kept) c.args.body.now.few c.in_ok-literals.ensures.parses in
     record {
       low = level.0;
