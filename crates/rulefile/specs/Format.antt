@@ -1,6 +1,6 @@
 -- The meaning of a rule file.
 use Rattle.std.specs.Prelude.{ℕ, zero, suc, ◌-◌, ◌%◌, ◌^◌, cond, List, [], ◌∷◌, length, take, drop, ℤ, pos, negsuc, Some, None, Ok, Err, Option, Result, ◌==◌, nat_le, nat_lt}
-use Rattle.sheets.specs.Sheets.{Sheet, Count, width}
+use Rattle.sheets.specs.Sheets.{Sheet, Count, width, within_count}
 use Rattle.sheets.specs.declared.literals.Literal.{Literal}
 use Rattle.rulefile.specs.declared.refusals.Refusal.{Refusal}
 use Rattle.rulefile.specs.declared.refusals.Refusal.TheVariants.{FileTooLong, RecordCut, LengthRange, LengthPastEnd, UnknownKind, HeadMisplaced, TooManyOfKind, OutOfRange, MarkRange}
@@ -70,7 +70,7 @@ unfoldable pub head_fields : Parser (Count × Sheet)
 head_fields = do
   count ← within 1 width
   house ← sheet_field count
-  check (nat_lt house (2 ^ count)) MarkRange
+  check (within_count count house) MarkRange
   pure (count, house)
 
 -- the same, to the last byte of the body

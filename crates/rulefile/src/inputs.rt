@@ -4,6 +4,7 @@ ghost use Rattle.std.specs.Io.KnownBytes.{Consumes, IsAtEnd};
 ghost use Rattle.rulefile.specs.Format.{decode};
 ghost use Rattle.rulefile.specs.Reading.{input_bytes, Enough, Fewest, LeavesAfter, GivesAtMost};
 
+use crate::limits::MOST_BYTES;
 use std::alloc::Global;
 use std::io;
 use std::io::{ErrorKind, Read};
@@ -15,7 +16,7 @@ pub fn input_limit() -> usize
     ensures enough { Enough result }
     ensures fewest { Fewest result }
 {
-    32_769
+    MOST_BYTES + 1
 }
 
 // Reads until the buffer is full or the reader is at its end, and answers how many bytes stand in the buffer. The library's
