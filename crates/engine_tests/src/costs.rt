@@ -26,6 +26,15 @@ fn same_levels(file: &RuleFile, cost: LevelCost, sheet: Sheet) -> bool {
     (1..=TOP_LEVEL).all(|level| i64::from(cost.at(level)) == sum_at(file, level, sheet))
 }
 
+// At the greatest level at which their sums differ, that of the one sheet is less than that of the other.
+fn is_cheaper(file: &RuleFile, sheet: Sheet, other: Sheet) -> bool {
+    (1..=TOP_LEVEL)
+        .rev()
+        .map(|level| (sum_at(file, level, sheet), sum_at(file, level, other)))
+        .find(|(sum, of_other)| sum != of_other)
+        .is_some_and(|(sum, of_other)| sum < of_other)
+}
+
 // In how many marks the sheets differ.
 pub fn marks_apart(sheet: Sheet, other: Sheet) -> usize {
     (0..WIDTH)
@@ -33,7 +42,7 @@ pub fn marks_apart(sheet: Sheet, other: Sheet) -> usize {
         .count()
 }
 
-// On how many sheets of marks below the count the costs differ.
+// On how many sheets of marks below the count the costs differ, or how they compare with that of the house sheet.
 pub fn try_costs(file: &Rc<RuleFile>) -> Result<u64, AllocError> {
     let levels = Levels::new(file.clone()?);
     let distance = Distance::new(file.house);
@@ -41,6 +50,7 @@ pub fn try_costs(file: &Rc<RuleFile>) -> Result<u64, AllocError> {
         .filter(|sheet| {
             !same_levels(file, levels.cost(*sheet), *sheet)
                 || distance.cost(*sheet) as usize != marks_apart(*sheet, file.house)
+                || levels.dominates(*sheet, file.house) != is_cheaper(file, *sheet, file.house)
         })
         // No `count`, which asks that there are fewer than 2^64 sheets: of 64 marks there are as many.
         .fold(0u64, |differ, _| differ.wrapping_add(1));
