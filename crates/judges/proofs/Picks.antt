@@ -3,7 +3,7 @@ use Rattle.std.proofs.Common.{◌≡◌, ℕ, Bool, true, false, cond, not, Deci
 use Rattle.std.proofs.lemmas.Bool.{both_ways, cases_lt}
 use Rattle.sheets.specs.declared.literals.Literal.{Literal}
 use Rattle.sheets.specs.Sheets.{width, has, others, Part, Within}
-use Rattle.sheets.specs.Literals.{held, Holds}
+use Rattle.sheets.specs.Literals.{held, Holds, in_every, in_some}
 use Rattle.sheets.specs.laws.Bits.{has_high}
 use Rattle.sheets.specs.laws.Parts.{others_word, has_others, apart_turned, subset_others, within_itself}
 use Rattle.sheets.proofs.Held.{sure_holds, holds_possible}
@@ -20,7 +20,7 @@ module _ (p a : ℕ) (part : Part p a) where
         (λ ge. absurd (both_ways (has a i) (has_high width a i part.absent_word ge) t)) (cases_lt i width);
   }
 
-  every : (l : Literal) → Decides (held p (others a) l) ((z : ℕ) → Within p a z → Holds z l)
+  every : (l : Literal) → Decides (held (in_every p a) l) ((z : ℕ) → Within p a z → Holds z l)
   every l = (λ t z w. sure_holds p a z part w l t, λ h. go l.negated (h p (within_itself p a part)) (h (others a) highest))
     where
       go : (b : Bool) → cond b (not (has p l.mark)) (has p l.mark) ≡ true → cond b (not (has (others a) l.mark)) (has (others a) l.mark) ≡ true
@@ -28,7 +28,7 @@ module _ (p a : ℕ) (part : Part p a) where
       go true x y = y
       go false x y = x
 
-  some : (l : Literal) → Decides (held (others a) p l) ((z : ℕ) × Within p a z × Holds z l)
+  some : (l : Literal) → Decides (held (in_some p a) l) ((z : ℕ) × Within p a z × Holds z l)
   some l = (λ t. go l.negated t, λ h. holds_possible p a h.0 part h.1 l h.2)
     where
       go : (b : Bool) → cond b (not (has p l.mark)) (has (others a) l.mark) ≡ true → (z : ℕ) × Within p a z × (cond b (not (has z l.mark)) (has z l.mark) ≡ true)

@@ -2,7 +2,7 @@
 use Rattle.std.specs.Prelude.{ℕ, zero, suc, Bool, false, not, ◌&&◌, ◌||◌, List, nat_le, nat_lt}
 use Rattle.std.specs.List.{list_all, list_any}
 use Rattle.sheets.specs.Sheets.{Sheet, has, others, full}
-use Rattle.sheets.specs.Literals.{held}
+use Rattle.sheets.specs.Literals.{held, in_every, in_some}
 use Rattle.sheets.specs.Judging.{Judging}
 use Rattle.rulefile.specs.Model.{ConstraintModel, RuleModel, FileModel}
 use Rattle.judges.specs.Programs.{weigh, at_most, rule_holds, Horn, reduct, reaches, AnswerSet}
@@ -29,11 +29,11 @@ lawful program z =
 
 -- the weights of the elements that hold in every sheet within
 abbrev pub least : Sheet → Sheet → ConstraintModel → ℕ
-least p a k = weigh (held p (others a)) k.elements
+least p a k = weigh (held (in_every p a)) k.elements
 
 -- the weights of the elements that hold in some sheet within
 abbrev pub greatest : Sheet → Sheet → ConstraintModel → ℕ
-greatest p a k = weigh (held (others a) p) k.elements
+greatest p a k = weigh (held (in_some p a)) k.elements
 
 -- its sums show that the constraint holds in every sheet within
 abbrev pub sure : Sheet → Sheet → ConstraintModel → Bool

@@ -3,7 +3,7 @@ use Rattle.std.specs.Prelude.{◌≡◌, Bool, true, not, ◌||◌, List}
 use Rattle.sheets.specs.declared.literals.Literal.{Literal}
 use Rattle.std.specs.List.{list_all, list_any}
 use Rattle.sheets.specs.Sheets.{Sheet, Count, others, MarksBelow, within_count}
-use Rattle.sheets.specs.Literals.{held, holds}
+use Rattle.sheets.specs.Literals.{held, holds, in_some}
 use Rattle.sheets.specs.Judging.{Judging}
 use Rattle.rulefile.specs.Model.{FileModel}
 
@@ -14,7 +14,7 @@ kept clauses z = list_all (list_any (holds z)) clauses
 -- by the present marks p and the absent marks a: a present mark is not below the count, or a clause has no literal that
 -- holds in any sheet within
 abbrev pub list_dead : Count → List (List Literal) → Sheet → Sheet → Bool
-list_dead count clauses p a = not (within_count count p) || not (list_all (list_any (held (others a) p)) clauses)
+list_dead count clauses p a = not (within_count count p) || not (list_all (list_any (held (in_some p a))) clauses)
 
 -- the printer's list of a file, as a judge
 abbrev pub list_of : FileModel → Judging

@@ -3,7 +3,7 @@
 use Rattle.std.specs.Prelude.{◌^◌, Bool, cond, ◌&&◌, List, fold, bit_or, nat_le}
 use Rattle.std.specs.List.{list_all}
 use Rattle.sheets.specs.Sheets.{Sheet}
-use Rattle.sheets.specs.Literals.{held, holds}
+use Rattle.sheets.specs.Literals.{held, holds, by_words}
 use Rattle.rulefile.specs.declared.constraints.Element.{Element}
 use Rattle.rulefile.specs.Model.{ConstraintModel, RuleModel}
 use Rattle.judges.specs.Programs.{weigh, at_most, plain}
@@ -11,7 +11,7 @@ use Rattle.judges.specs.Programs.{weigh, at_most, plain}
 -- the constraint's sum in z is not above its high bound, and its plain elements with marks in s, with its "not" elements
 -- that hold in z, weigh its low bound or more
 abbrev pub supported : Sheet → Sheet → ConstraintModel → Bool
-supported z s k = at_most (weigh (holds z) k.elements) k.high && nat_le k.low (weigh (held s z) k.elements)
+supported z s k = at_most (weigh (holds z) k.elements) k.high && nat_le k.low (weigh (held (by_words s z)) k.elements)
 
 -- s with the mark of the head element, if that is plain and holds in z
 abbrev pub added : Sheet → Element → Sheet → Sheet

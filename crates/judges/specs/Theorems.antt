@@ -2,7 +2,7 @@
 use Rattle.std.specs.Prelude.{◌≡◌, List, Decides}
 use Rattle.sheets.specs.declared.literals.Literal.{Literal}
 use Rattle.sheets.specs.Sheets.{Sheet, others, Part, Within}
-use Rattle.sheets.specs.Literals.{held, Holds}
+use Rattle.sheets.specs.Literals.{held, Holds, in_every, in_some}
 use Rattle.rulefile.specs.Model.{RuleModel}
 use Rattle.judges.specs.declared.verdicts.Verdict.{Verdict}
 use Rattle.judges.specs.Programs.{Horn, reduct, Closure, AnswerSet}
@@ -20,5 +20,5 @@ pub record ClosuresStand : Type 0 where
 -- of a part-sheet by its present marks p and its absent marks a: the least sum counts the literals that hold in every sheet
 -- within, and the greatest those that hold in some
 pub record SumsStand : Type 0 where
-  pub every : (p a : Sheet) (l : Literal) → Part p a → Decides (held p (others a) l) ((z : Sheet) → Within p a z → Holds z l)
-  pub some : (p a : Sheet) (l : Literal) → Part p a → Decides (held (others a) p l) ((z : Sheet) × Within p a z × Holds z l)
+  pub every : (p a : Sheet) (l : Literal) → Part p a → Decides (held (in_every p a) l) ((z : Sheet) → Within p a z → Holds z l)
+  pub some : (p a : Sheet) (l : Literal) → Part p a → Decides (held (in_some p a) l) ((z : Sheet) × Within p a z × Holds z l)

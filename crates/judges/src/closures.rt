@@ -33,8 +33,8 @@ impl Reduct<'_> {
     {
         let in_sheet = Interpretation::of_sheet(self.sheet);
         let by_reached = Interpretation {
-            there: reached,
-            among: self.sheet,
+            plain: reached,
+            negated: self.sheet,
         };
         is_at_most(sum(constraint, in_sheet), constraint.high)
             && constraint.low <= sum(constraint, by_reached)

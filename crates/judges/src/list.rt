@@ -41,7 +41,7 @@ impl PrinterList {
 
 // Each clause has a literal that is held.
 fn are_kept(clauses: &[Clause], by: Interpretation) -> bool
-    ensures { result ≡ list_all (list_any (held by.there by.among)) (map clause_of clauses.now) }
+    ensures { result ≡ list_all (list_any (held by)) (map clause_of clauses.now) }
 {
     clauses.iter().all(|clause| clause.is_one_held(by))
 }

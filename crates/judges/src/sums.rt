@@ -11,7 +11,7 @@ use sheets::{Interpretation, Sheet};
 // The weights of the elements that are held.
 fn held_weight(elements: &[Element], by: Interpretation) -> u32
     requires { length elements.now ≤ most_elements }
-    ensures { result ≡ weigh (held by.there by.among) elements.now }
+    ensures { result ≡ weigh (held by) elements.now }
 {
     // No `filter`: which elements are held is no branch to guess.
     elements
@@ -28,7 +28,7 @@ fn held_weight(elements: &[Element], by: Interpretation) -> u32
 
 // The sum of the constraint: counted where its elements weigh the same.
 pub(crate) fn sum(constraint: &Constraint, by: Interpretation) -> u32
-    ensures { result ≡ weigh (held by.there by.among) (constraint_of constraint.now).elements }
+    ensures { result ≡ weigh (held by) (constraint_of constraint.now).elements }
 {
     match constraint.uniform() {
         Some(uniform) => uniform.sum(by),

@@ -101,7 +101,7 @@ pub struct Clause {
 impl Clause {
     // At least one of the literals is held.
     pub fn is_one_held(&self, by: Interpretation) -> bool
-        ensures { result ≡ list_any (held by.there by.among) (vec_items self.now.literals) }
+        ensures { result ≡ list_any (held by) (vec_items self.now.literals) }
     {
         self.set.is_one_held(by)
     }

@@ -37,7 +37,7 @@ impl Uniform {
 
     // The weights of the elements that are held.
     pub fn sum(self, by: Interpretation) -> u32
-        ensures { (es : List Element) → AreUniform es self → result ≡ sum_by (λ e. cond (held by.there by.among e.literal) e.weight 0) es }
+        ensures { (es : List Element) → AreUniform es self → result ≡ sum_by (λ e. cond (held by e.literal) e.weight 0) es }
     {
         u32::from(self.weight) * self.literals.count_held(by)
     }

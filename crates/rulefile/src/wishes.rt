@@ -30,7 +30,7 @@ pub struct Wish {
 impl Wish {
     // Each of the literals is held.
     pub fn are_all_held(&self, by: Interpretation) -> bool
-        ensures { result ≡ list_all (held by.there by.among) (vec_items self.now.literals) }
+        ensures { result ≡ list_all (held by) (vec_items self.now.literals) }
     {
         self.set.are_all_held(by)
     }

@@ -4,7 +4,7 @@ use Rattle.std.specs.Prelude.{◌≡◌, ℕ, zero, suc, ◌-◌, ◌<◌, Bool,
 use Rattle.std.specs.Int.{int_min}
 use Rattle.std.specs.List.{list_all, list_any}
 use Rattle.sheets.specs.Sheets.{Sheet, others}
-use Rattle.sheets.specs.Literals.{held, holds}
+use Rattle.sheets.specs.Literals.{held, holds, in_every, in_some}
 use Rattle.total_order.specs.Orders.{first_decides}
 use Rattle.rulefile.specs.Ranges.{top_level}
 use Rattle.rulefile.specs.Model.{WishModel}
@@ -17,7 +17,7 @@ wish_cost z w = cond (list_all (holds z) w.literals) w.weight (pos 0)
 -- literal fails in all, else the smaller of the weight and 0
 abbrev pub wish_floor : Sheet → Sheet → WishModel → ℤ
 wish_floor p a w =
-    cond (list_all (held p (others a)) w.literals) w.weight (cond (list_all (held (others a) p) w.literals) (int_min w.weight (pos 0)) (pos 0))
+    cond (list_all (held (in_every p a)) w.literals) w.weight (cond (list_all (held (in_some p a)) w.literals) (int_min w.weight (pos 0)) (pos 0))
 
 -- what the wishes of level n add up to, record by record
 abbrev pub sum_at : (WishModel → ℤ) → List WishModel → ℕ → ℤ

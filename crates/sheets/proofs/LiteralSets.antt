@@ -12,7 +12,7 @@ use Rattle.std.proofs.lemmas.Bool.{both_ways, cases_Bool, ltb-true, lt-ltb, eqb-
 use Rattle.sheets.specs.declared.literals.Literal.{Literal}
 use Rattle.sheets.specs.declared.literal_sets.LiteralSet.{LiteralSet}
 use Rattle.sheets.specs.Sheets.{width, has, others}
-use Rattle.sheets.specs.Literals.{held}
+use Rattle.sheets.specs.Literals.{held, by_words}
 use Rattle.sheets.specs.LiteralSets.{Stands, MarksInWidth, in_width, has_literal, is_plain, is_not, distinct, with_one, with_literal}
 use Rattle.sheets.specs.laws.Bits.{has_none, has_and, has_or, has_one, same_marks}
 use Rattle.sheets.specs.laws.Parts.{others_word, has_others}
@@ -256,7 +256,7 @@ module _ (p n t a : ℕ) (ls : List Literal) (pw : p < 2 ^ width) (nw : n < 2 ^ 
       (has_and p t i ∙ ap (λ b. b && has t i) (h.plain_marks i))
       (has_and n (others a) i ∙ ap₂ (λ b c. b && c) (h.not_marks i) (has_others a aw i lt))
 
-  pub one_held : (bit_or (bit_and p t) (bit_and n (others a)) == 0) ≡ not (list_any (held t a) ls)
+  pub one_held : (bit_or (bit_and p t) (bit_and n (others a)) == 0) ≡ not (list_any (held (by_words t a)) ls)
   one_held = word_none (has t) (λ i. not (has a i)) ls _ h.marks
       (or_lt width (bit_and p t) (bit_and n (others a)) (and_lt width p t pw tw) (and_lt width n (others a) nw (others_word a aw))) held_bits
 
@@ -268,7 +268,7 @@ module _ (p n t a : ℕ) (ls : List Literal) (pw : p < 2 ^ width) (nw : n < 2 ^ 
       (has_and p (others t) i ∙ ap₂ (λ b c. b && c) (h.plain_marks i) (has_others t tw i lt))
       (has_and n a i ∙ ap (λ b. b && has a i) (h.not_marks i))
 
-  pub all_held : (bit_or (bit_and p (others t)) (bit_and n a) == 0) ≡ list_all (held t a) ls
+  pub all_held : (bit_or (bit_and p (others t)) (bit_and n a) == 0) ≡ list_all (held (by_words t a)) ls
   all_held = word_none (λ i. not (has t i)) (has a) ls _ h.marks
       (or_lt width (bit_and p (others t)) (bit_and n a) (and_lt width p (others t) pw (others_word t tw)) (and_lt width n a nw aw)) unheld_bits
       ∙ none_unheld ls
@@ -282,7 +282,7 @@ module _ (p n t a : ℕ) (ls : List Literal) (pw : p < 2 ^ width) (nw : n < 2 ^ 
       split true c = refl
       split false c = refl
 
-      none_unheld : (ls : List Literal) → not (list_any (pick (λ i. not (has t i)) (has a)) ls) ≡ list_all (held t a) ls
+      none_unheld : (ls : List Literal) → not (list_any (pick (λ i. not (has t i)) (has a)) ls) ≡ list_all (held (by_words t a)) ls
       none_unheld [] = refl
       none_unheld (l ∷ ls) =
           split (pick (λ i. not (has t i)) (has a) l) (list_any (pick (λ i. not (has t i)) (has a)) ls)
@@ -291,18 +291,18 @@ module _ (p n t a : ℕ) (ls : List Literal) (pw : p < 2 ^ width) (nw : n < 2 ^ 
   -- ---- literals that are counted
 
   counts : (ks : List Literal) → MarksInWidth ks → distinct ks ≡ true
-      → marks_where width (λ i. list_any (is_plain i) ks && has t i) + marks_where width (λ i. list_any (is_not i) ks && not (has a i)) ≡ count_by (held t a) ks
+      → marks_where width (λ i. list_any (is_plain i) ks && has t i) + marks_where width (λ i. list_any (is_not i) ks && not (has a i)) ≡ count_by (held (by_words t a)) ks
   counts [] m d = omega (arith, marks_none width)
   counts (l ∷ ks) m d =
       let b = and_parts (nat_lt l.mark width) (list_all (λ k. nat_lt k.mark width) ks) m in
       let c = and_parts (not (list_any (cond l.negated (is_not l.mark) (is_plain l.mark)) ks)) (distinct ks) d in
-      go l.negated (ltb-true l.mark width b.0) c.0 (counts ks b.1 c.1) ∙ sym (sum_by-cons (λ k. cond (held t a k) 1 0) l ks)
+      go l.negated (ltb-true l.mark width b.0) c.0 (counts ks b.1 c.1) ∙ sym (sum_by-cons (λ k. cond (held (by_words t a) k) 1 0) l ks)
     where
       go : (b : Bool) → l.mark < width → not (list_any (cond b (is_not l.mark) (is_plain l.mark)) ks) ≡ true
-          → marks_where width (λ i. list_any (is_plain i) ks && has t i) + marks_where width (λ i. list_any (is_not i) ks && not (has a i)) ≡ count_by (held t a) ks
+          → marks_where width (λ i. list_any (is_plain i) ks && has t i) + marks_where width (λ i. list_any (is_not i) ks && not (has a i)) ≡ count_by (held (by_words t a)) ks
           → marks_where width (λ i. ((not b && l.mark == i) || list_any (is_plain i) ks) && has t i)
           + marks_where width (λ i. ((b && l.mark == i) || list_any (is_not i) ks) && not (has a i))
-          ≡ cond (cond b (not (has a l.mark)) (has t l.mark)) 1 0 + count_by (held t a) ks
+          ≡ cond (cond b (not (has a l.mark)) (has t l.mark)) 1 0 + count_by (held (by_words t a)) ks
       go true lt fresh rest =
           let more = marks_more width l.mark (λ i. list_any (is_not i) ks) (λ i. not (has a i)) lt (not-true _ fresh) in
           omega (arith, more, rest)
@@ -310,7 +310,7 @@ module _ (p n t a : ℕ) (ls : List Literal) (pw : p < 2 ^ width) (nw : n < 2 ^ 
           let more = marks_more width l.mark (λ i. list_any (is_plain i) ks) (has t) lt (not-true _ fresh) in
           omega (arith, more, rest)
 
-  pub count_held : distinct ls ≡ true → ones (bit_and p t) + ones (bit_and n (others a)) ≡ count_by (held t a) ls
+  pub count_held : distinct ls ≡ true → ones (bit_and p t) + ones (bit_and n (others a)) ≡ count_by (held (by_words t a)) ls
   count_held d =
       ap₂ (λ x y. x + y)
       (ones_where (bit_and p t) (λ i. list_any (is_plain i) ls && has t i) (and_lt width p t pw tw)

@@ -66,23 +66,23 @@ impl LiteralSet {
 
     // At least one of the literals is held.
     pub fn is_one_held(self, by: Interpretation) -> bool
-        ensures { (ls : List Literal) → Stands self.plain self.nots ls → result ≡ list_any (held by.there by.among) ls }
+        ensures { (ls : List Literal) → Stands self.plain self.nots ls → result ≡ list_any (held by) ls }
     {
-        (self.plain & by.there) | (self.nots & !by.among) != 0
+        (self.plain & by.plain) | (self.nots & !by.negated) != 0
     }
 
     // Each of the literals is held.
     pub fn are_all_held(self, by: Interpretation) -> bool
-        ensures { (ls : List Literal) → Stands self.plain self.nots ls → result ≡ list_all (held by.there by.among) ls }
+        ensures { (ls : List Literal) → Stands self.plain self.nots ls → result ≡ list_all (held by) ls }
     {
-        (self.plain & !by.there) | (self.nots & by.among) == 0
+        (self.plain & !by.plain) | (self.nots & by.negated) == 0
     }
 
     // How many of the literals are held.
     pub fn count_held(self, by: Interpretation) -> u32
-        ensures value { (ls : List Literal) → Stands self.plain self.nots ls → distinct ls ≡ true → result ≡ count_by (held by.there by.among) ls }
+        ensures value { (ls : List Literal) → Stands self.plain self.nots ls → distinct ls ≡ true → result ≡ count_by (held by) ls }
         ensures most { result ≤ 2 * width }
     {
-        (self.plain & by.there).count_ones() + (self.nots & !by.among).count_ones()
+        (self.plain & by.plain).count_ones() + (self.nots & !by.negated).count_ones()
     }
 }

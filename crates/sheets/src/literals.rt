@@ -1,7 +1,7 @@
 // A plain mark, or "not" a mark, and what it is judged by.
 ghost use Rattle.std.specs.Prelude.{◌≡◌};
 ghost use Rattle.std.specs.List.{list_any, list_all};
-ghost use Rattle.sheets.specs.Literals.{held};
+ghost use Rattle.sheets.specs.Literals.{by_words, held};
 
 use crate::marks::{Mark, Sheet, has_mark};
 
@@ -13,23 +13,22 @@ pub struct Literal {
     pub negated: bool,
 }
 
-// What literals are judged by. A plain mark is held if it is in `there`, and "not" a mark if the mark is missing from
-// `among`.
+// What literals are judged by. A plain mark is held if it is in `plain`, and "not" a mark if the mark is missing from
+// `negated`.
 #[derive(Clone, Copy, Debug, PartialEq, Eq)]
 pub struct Interpretation {
-    pub there: Sheet,
-    pub among: Sheet,
+    pub plain: Sheet,
+    pub negated: Sheet,
 }
 
 impl Interpretation {
     // What is held by it holds in the sheet.
     pub fn of_sheet(sheet: Sheet) -> Interpretation
-        ensures there { result.there ≡ sheet }
-        ensures among { result.among ≡ sheet }
+        ensures { result ≡ by_words sheet sheet }
     {
         Interpretation {
-            there: sheet,
-            among: sheet,
+            plain: sheet,
+            negated: sheet,
         }
     }
 }
@@ -37,26 +36,26 @@ impl Interpretation {
 impl Literal {
     // The literal is held by the interpretation.
     pub fn is_held(self, by: Interpretation) -> bool
-        ensures { result ≡ held by.there by.among self }
+        ensures { result ≡ held by self }
     {
         if self.negated {
-            !has_mark(by.among, self.mark)
+            !has_mark(by.negated, self.mark)
         } else {
-            has_mark(by.there, self.mark)
+            has_mark(by.plain, self.mark)
         }
     }
 }
 
 // At least one of the literals is held.
 pub fn is_one_held(literals: &[Literal], by: Interpretation) -> bool
-    ensures { result ≡ list_any (held by.there by.among) literals.now }
+    ensures { result ≡ list_any (held by) literals.now }
 {
     literals.iter().any(|literal| literal.is_held(by))
 }
 
 // Each of the literals is held.
 pub fn are_all_held(literals: &[Literal], by: Interpretation) -> bool
-    ensures { result ≡ list_all (held by.there by.among) literals.now }
+    ensures { result ≡ list_all (held by) literals.now }
 {
     literals.iter().all(|literal| literal.is_held(by))
 }

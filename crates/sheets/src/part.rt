@@ -1,6 +1,7 @@
 // What is known of a sheet.
 ghost use Rattle.std.specs.Prelude.{◌≡◌, ◌↔◌, IsTrue, MatchOption, bit_and};
 ghost use Rattle.sheets.specs.Sheets.{others, Apart, full, Full};
+ghost use Rattle.sheets.specs.Literals.{in_every, in_some};
 
 use crate::literals::Interpretation;
 use crate::marks::Sheet;
@@ -63,23 +64,21 @@ impl PartSheet {
 
     // What is held by it holds in every sheet within.
     pub fn sure(self) -> Interpretation
-        ensures there { result.there ≡ self.present }
-        ensures among { result.among ≡ others self.absent }
+        ensures { result ≡ in_every self.present self.absent }
     {
         Interpretation {
-            there: self.present,
-            among: !self.absent,
+            plain: self.present,
+            negated: !self.absent,
         }
     }
 
     // What is held by it holds in some sheet within.
     pub fn possible(self) -> Interpretation
-        ensures there { result.there ≡ others self.absent }
-        ensures among { result.among ≡ self.present }
+        ensures { result ≡ in_some self.present self.absent }
     {
         Interpretation {
-            there: !self.absent,
-            among: self.present,
+            plain: !self.absent,
+            negated: self.present,
         }
     }
 

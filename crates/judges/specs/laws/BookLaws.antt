@@ -7,7 +7,7 @@ use Rattle.std.proofs.ByRecursion.{All-append}
 use Rattle.std.proofs.lemmas.Bool.{both_ways, cases_Bool, and_from, and_parts, and_cases, and_left, and_right, or_cases, or_parts, or_from, not-true, not-false, leb-true, le-leb, lt-leb, ltb-true}
 use Rattle.std.specs.List.{list_all, list_any}
 use Rattle.sheets.specs.Sheets.{has, others, Part, Within, full, MarksBelow}
-use Rattle.sheets.specs.Literals.{held, holds}
+use Rattle.sheets.specs.Literals.{held, holds, in_every, in_some}
 use Rattle.sheets.specs.Judging.{JudgeLaws}
 use Rattle.sheets.specs.laws.Bits.{has_and, has_first, below_marks}
 use Rattle.sheets.proofs.Subsets.{subset_le}
@@ -50,10 +50,10 @@ module _ (z n : ℕ) where
 -- ---- sums within a part-sheet
 module _ (p a z : ℕ) (part : Part p a) (w : Within p a z) where
   least_le : (k : ConstraintModel) → least p a k ≤ weigh (holds z) k.elements
-  least_le k = weigh_le (held p (others a)) (holds z) (sure_holds p a z part w) k.elements
+  least_le k = weigh_le (held (in_every p a)) (holds z) (sure_holds p a z part w) k.elements
 
   le_greatest : (k : ConstraintModel) → weigh (holds z) k.elements ≤ greatest p a k
-  le_greatest k = weigh_le (holds z) (held (others a) p) (holds_possible p a z part w) k.elements
+  le_greatest k = weigh_le (holds z) (held (in_some p a)) (holds_possible p a z part w) k.elements
 
   at_most_less : (m n : ℕ) (high : Option ℕ) → m ≤ n → at_most n high ≡ true → at_most m high ≡ true
   at_most_less m n None le h = refl

@@ -9,7 +9,7 @@ use Rattle.rulefile.specs.declared.constraints.Element.{Element}
 use Rattle.sheets.specs.Sheets.{width, has, Subset}
 use Rattle.rulefile.specs.Model.{ConstraintModel, RuleModel}
 use Rattle.std.specs.List.{list_all}
-use Rattle.sheets.specs.Literals.{held, holds}
+use Rattle.sheets.specs.Literals.{held, holds, by_words}
 use Rattle.judges.specs.Programs.{weigh, at_most, plain, Horn, lowered, reduct_of_rule, reduct, reaches, Obeys, Closure}
 use Rattle.judges.specs.Rounds.{supported, with_heads, fired, round}
 use Rattle.sheets.specs.laws.Bits.{has_none, has_high}
@@ -27,7 +27,7 @@ pub weigh_le : (p q : Literal → Bool) → ((l : Literal) → p l ≡ true → 
 weigh_le p q h [] = omega arith
 weigh_le p q h (e ∷ es) = omega (arith, leaf (p e.literal) (q e.literal) e.weight (h e.literal), weigh_le p q h es)
 
-held_more : (s t z : ℕ) → Subset s t → (l : Literal) → held s z l ≡ true → held t z l ≡ true
+held_more : (s t z : ℕ) → Subset s t → (l : Literal) → held (by_words s z) l ≡ true → held (by_words t z) l ≡ true
 held_more s t z u = held_wider s t z z u (λ i e. e)
 
 -- the element of these three parts
@@ -36,20 +36,20 @@ one m b w = record { literal = record { mark = m; negated = b }; weight = w }
 
 -- the plain elements in s and the "not" elements that hold in z are what is left and what the bound is lowered by
 weigh_split : (s z : ℕ) (es : List Element)
-    → weigh (held s z) es ≡ weigh (holds s) (filter (λ e. plain e.literal) es) + weigh (λ l. l.negated && holds z l) es
+    → weigh (held (by_words s z)) es ≡ weigh (holds s) (filter (λ e. plain e.literal) es) + weigh (λ l. l.negated && holds z l) es
 weigh_split s z [] = refl
 weigh_split s z (e ∷ es) = go (weigh_split s z es) e.literal.mark e.literal.negated e.weight
   where
-    go : weigh (held s z) es ≡ weigh (holds s) (filter (λ e. plain e.literal) es) + weigh (λ l. l.negated && holds z l) es → (m : ℕ) (b : Bool) (w : ℕ)
-        → weigh (held s z) (one m b w ∷ es) ≡ weigh (holds s) (filter (λ e. plain e.literal) (one m b w ∷ es)) + weigh (λ l. l.negated && holds z l) (one m b w ∷ es)
+    go : weigh (held (by_words s z)) es ≡ weigh (holds s) (filter (λ e. plain e.literal) es) + weigh (λ l. l.negated && holds z l) es → (m : ℕ) (b : Bool) (w : ℕ)
+        → weigh (held (by_words s z)) (one m b w ∷ es) ≡ weigh (holds s) (filter (λ e. plain e.literal) (one m b w ∷ es)) + weigh (λ l. l.negated && holds z l) (one m b w ∷ es)
     go rest m true w = omega arith
     go rest m false w = omega arith
 
 -- ---- what a rule that is not skipped asks of a set
-reaches_if : (z s : ℕ) (k : ConstraintModel) → nat_le k.low (weigh (held s z) k.elements) ≡ true → reaches s (lowered z k) ≡ true
-reaches_if z s k t = le-leb _ _ (omega (arith, leb-true k.low (weigh (held s z) k.elements) t, weigh_split s z k.elements))
+reaches_if : (z s : ℕ) (k : ConstraintModel) → nat_le k.low (weigh (held (by_words s z)) k.elements) ≡ true → reaches s (lowered z k) ≡ true
+reaches_if z s k t = le-leb _ _ (omega (arith, leb-true k.low (weigh (held (by_words s z)) k.elements) t, weigh_split s z k.elements))
 
-if_reaches : (z s : ℕ) (k : ConstraintModel) → reaches s (lowered z k) ≡ true → nat_le k.low (weigh (held s z) k.elements) ≡ true
+if_reaches : (z s : ℕ) (k : ConstraintModel) → reaches s (lowered z k) ≡ true → nat_le k.low (weigh (held (by_words s z)) k.elements) ≡ true
 if_reaches z s k t = le-leb _ _ (omega (arith, leb-true _ _ t, weigh_split s z k.elements))
 
 -- no body sum is above its high bound in z
@@ -60,14 +60,14 @@ supported_open : (z s : ℕ) (ks : List ConstraintModel) → list_all (supported
 supported_open z s [] h = refl
 supported_open z s (k ∷ ks) h =
     let a = and_parts (supported z s k) (list_all (supported z s) ks) h in
-    let b = and_parts (at_most (weigh (holds z) k.elements) k.high) (nat_le k.low (weigh (held s z) k.elements)) a.0 in
+    let b = and_parts (at_most (weigh (holds z) k.elements) k.high) (nat_le k.low (weigh (held (by_words s z)) k.elements)) a.0 in
     and_from (at_most (weigh (holds z) k.elements) k.high) (Open z ks) b.0 (supported_open z s ks a.1)
 
 supported_reaches : (z s : ℕ) (ks : List ConstraintModel) → list_all (supported z s) ks ≡ true → list_all (reaches s) (map (lowered z) ks) ≡ true
 supported_reaches z s [] h = refl
 supported_reaches z s (k ∷ ks) h =
     let a = and_parts (supported z s k) (list_all (supported z s) ks) h in
-    let b = and_parts (at_most (weigh (holds z) k.elements) k.high) (nat_le k.low (weigh (held s z) k.elements)) a.0 in
+    let b = and_parts (at_most (weigh (holds z) k.elements) k.high) (nat_le k.low (weigh (held (by_words s z)) k.elements)) a.0 in
     and_from (reaches s (lowered z k)) (list_all (reaches s) (map (lowered z) ks)) (reaches_if z s k b.1) (supported_reaches z s ks a.1)
 
 supported_from : (z s : ℕ) (ks : List ConstraintModel) → Open z ks ≡ true → list_all (reaches s) (map (lowered z) ks) ≡ true → list_all (supported z s) ks ≡ true
@@ -76,17 +76,17 @@ supported_from z s (k ∷ ks) o h =
     let a = and_parts (at_most (weigh (holds z) k.elements) k.high) (Open z ks) o in
     let b = and_parts (reaches s (lowered z k)) (list_all (reaches s) (map (lowered z) ks)) h in
     and_from (supported z s k) (list_all (supported z s) ks)
-    (and_from (at_most (weigh (holds z) k.elements) k.high) (nat_le k.low (weigh (held s z) k.elements)) a.0 (if_reaches z s k b.0))
+    (and_from (at_most (weigh (holds z) k.elements) k.high) (nat_le k.low (weigh (held (by_words s z)) k.elements)) a.0 (if_reaches z s k b.0))
     (supported_from z s ks a.1 b.1)
 
 supported_more : (z s t : ℕ) → Subset s t → (ks : List ConstraintModel) → list_all (supported z s) ks ≡ true → list_all (supported z t) ks ≡ true
 supported_more z s t u [] h = refl
 supported_more z s t u (k ∷ ks) h =
     let a = and_parts (supported z s k) (list_all (supported z s) ks) h in
-    let b = and_parts (at_most (weigh (holds z) k.elements) k.high) (nat_le k.low (weigh (held s z) k.elements)) a.0 in
-    let le = weigh_le (held s z) (held t z) (held_more s t z u) k.elements in
+    let b = and_parts (at_most (weigh (holds z) k.elements) k.high) (nat_le k.low (weigh (held (by_words s z)) k.elements)) a.0 in
+    let le = weigh_le (held (by_words s z)) (held (by_words t z)) (held_more s t z u) k.elements in
     and_from (supported z t k) (list_all (supported z t) ks)
-    (and_from (at_most (weigh (holds z) k.elements) k.high) (nat_le k.low (weigh (held t z) k.elements)) b.0
+    (and_from (at_most (weigh (holds z) k.elements) k.high) (nat_le k.low (weigh (held (by_words t z)) k.elements)) b.0
     (le-leb _ _ (omega (arith, leb-true _ _ b.1))))
     (supported_more z s t u ks a.1)
 

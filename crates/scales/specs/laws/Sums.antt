@@ -7,7 +7,7 @@ use Rattle.std.proofs.lemmas.Int.{ints, clamps}
 use Rattle.std.proofs.lemmas.Bool.{both_ways, cases_Bool, cond_both, and_from, and_parts, or_cases, or_parts, leb-true, le-leb, eqb-true}
 use Rattle.std.specs.List.{list_all, list_any}
 use Rattle.sheets.specs.Sheets.{others, Part, Within, Full}
-use Rattle.sheets.specs.Literals.{held, holds}
+use Rattle.sheets.specs.Literals.{held, holds, by_words, in_every, in_some}
 use Rattle.sheets.specs.Scaling.{ScaleLaws}
 use Rattle.sheets.specs.laws.Parts.{full_others}
 use Rattle.sheets.proofs.Held.{sure_holds, holds_possible}
@@ -34,13 +34,13 @@ floor_least false false false w h k = omega (arith, ints)
 
 floor_le : (p a z : ℕ) → Part p a → Within p a z → (w : WishModel) → wish_floor p a w ≤ℤ wish_cost z w
 floor_le p a z part within w =
-    floor_least (list_all (held p (others a)) w.literals) (list_all (held (others a) p) w.literals) (list_all (holds z) w.literals) w.weight
-    (all_wider (held p (others a)) (holds z) (sure_holds p a z part within) w.literals)
-    (all_wider (holds z) (held (others a) p) (holds_possible p a z part within) w.literals)
+    floor_least (list_all (held (in_every p a)) w.literals) (list_all (held (in_some p a)) w.literals) (list_all (holds z) w.literals) w.weight
+    (all_wider (held (in_every p a)) (holds z) (sure_holds p a z part within) w.literals)
+    (all_wider (holds z) (held (in_some p a)) (holds_possible p a z part within) w.literals)
 
 floor_full : (p a : ℕ) → Part p a → Full p a → (w : WishModel) → wish_floor p a w ≡ wish_cost p w
 floor_full p a part every w =
-    ap (λ q. cond (list_all (held p q) w.literals) w.weight (cond (list_all (held q p) w.literals) (int_min w.weight (pos 0)) (pos 0))) (full_others p a part every)
+    ap (λ q. cond (list_all (held (by_words p q)) w.literals) w.weight (cond (list_all (held (by_words q p)) w.literals) (int_min w.weight (pos 0)) (pos 0))) (full_others p a part every)
     ∙ go (list_all (holds p) w.literals)
   where
     go : (b : Bool) → cond b w.weight (cond b (int_min w.weight (pos 0)) (pos 0)) ≡ cond b w.weight (pos 0)

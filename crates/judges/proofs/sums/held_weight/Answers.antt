@@ -8,7 +8,7 @@ use Rattle.judges.proofs.sums.held_weight.Goals as goal
 
 pub returns : goal.returns
 returns c =
-    let p = held c.args.by.there c.args.by.among in
+    let p = held c.args.by in
     let w = λ (e : Element). cond (p e.literal) e.weight 0 in
     sum_by_from_yields_List w _ c.map.result _ c.sum.ensures.ran
     (YieldsList-from_map _ w (YieldsList-from_slice c.args.elements.now cc) c.map.ensures.closure (λ x r q k. search (rules, tests)))

@@ -9,7 +9,7 @@ overflow_mul-result c = record { fits = product_fits c.from.result c.count_held.
 
 pub returns : goal.returns
 returns c es h =
-    let p = held c.args.by.there c.args.by.among in
+    let p = held c.args.by in
     let count = c.count_held.ensures.value (literals_of es) h.words h.once in
     let sum = counted_sum c.args.self.weight p es h.weights in
     ap (λ n. n * c.count_held.result) c.from.ensures ∙ ap (λ n. c.args.self.weight * n) count ∙ sum

@@ -7,6 +7,6 @@ pub returns : goal.returns
 returns c ls h =
     let p : c.args.self.plain < 2 ^ width = omega arith in
     let n : c.args.self.nots < 2 ^ width = omega arith in
-    let t : c.args.by.there < 2 ^ width = omega arith in
-    let a : c.args.by.among < 2 ^ width = omega arith in
-    all_held c.args.self.plain c.args.self.nots c.args.by.there c.args.by.among ls p n t a h
+    let t : c.args.by.plain < 2 ^ width = omega arith in
+    let a : c.args.by.negated < 2 ^ width = omega arith in
+    all_held c.args.self.plain c.args.self.nots c.args.by.plain c.args.by.negated ls p n t a h
