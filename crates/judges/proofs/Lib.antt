@@ -1,3 +1,4 @@
 pub mod Steps
 pub mod Chains
 pub mod Picks
+pub mod FirstClause

@@ -1,5 +1,5 @@
 -- The printer's list as a judge.
-use Rattle.std.specs.Prelude.{◌≡◌, Bool, true, not, ◌||◌, List}
+use Rattle.std.specs.Prelude.{◌≡◌, ℕ, ◌<◌, Bool, true, false, not, ◌||◌, List, length, slice_index_or}
 use Rattle.sheets.specs.declared.literals.Literal.{Literal}
 use Rattle.std.specs.List.{list_all, list_any}
 use Rattle.sheets.specs.Sheets.{Sheet, Count, others, MarksBelow, within_count}
@@ -10,6 +10,13 @@ use Rattle.rulefile.specs.Model.{FileModel}
 -- each clause has a literal that holds
 abbrev pub kept : List (List Literal) → Sheet → Bool
 kept clauses z = list_all (list_any (holds z)) clauses
+
+-- n is the lowest number of a clause that does not hold in z; d is what a list gives beyond its end, and as n and k are
+-- within, any will do
+pub record FirstBrokenClause (clauses : List (List Literal)) (z : Sheet) (n : ℕ) : Type 0 where
+  pub within : n < length clauses
+  pub fails : (d : List Literal) → list_any (holds z) (slice_index_or clauses n d) ≡ false
+  pub before : (k : ℕ) → k < n → (d : List Literal) → list_any (holds z) (slice_index_or clauses k d) ≡ true
 
 -- by the present marks p and the absent marks a: a present mark is not below the count, or a clause has no literal that
 -- holds in any sheet within

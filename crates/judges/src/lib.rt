@@ -12,6 +12,6 @@ mod verdicts;
 
 pub use answers::{VerdictError, bytes_verdict, sheet_verdict};
 pub use book::Book;
-pub use list::PrinterList;
+pub use list::{PrinterList, first_broken_clause};
 pub use theorems::{closures_stand, sums_stand};
 pub use verdicts::{Refusal, Verdict};

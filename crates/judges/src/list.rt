@@ -1,17 +1,17 @@
 // The printer's list: the clauses of a file, as a judge.
-ghost use Rattle.std.specs.Prelude.{◌≡◌, map, IfOk};
+ghost use Rattle.std.specs.Prelude.{◌≡◌, true, map, IfOk, MatchOption};
 ghost use Rattle.std.specs.Rc.{rc_value};
 ghost use Rattle.std.specs.List.{list_all, list_any};
 ghost use Rattle.sheets.specs.Literals.{held};
 ghost use Rattle.rulefile.specs.Answers.{file_of};
 ghost use Rattle.rulefile.specs.Format.{decode, file_or_head_alone};
 ghost use Rattle.rulefile.specs.Model.{clause_of};
-ghost use Rattle.judges.specs.Clauses.{list_of};
+ghost use Rattle.judges.specs.Clauses.{kept, list_of, FirstBrokenClause};
 ghost use Rattle.rulefile.proofs.Fits.{fit_parts};
 ghost use Rattle.judges.specs.laws.ListLaws.{list_laws};
 
 use rulefile::{Clause, RuleFile, read_or_head_alone};
-use sheets::{Interpretation, Judge, PartSheet, within_count};
+use sheets::{Interpretation, Judge, PartSheet, Sheet, within_count};
 use std::alloc::{AllocError, Global};
 use std::rc::Rc;
 
@@ -44,6 +44,14 @@ fn are_kept(clauses: &[Clause], by: Interpretation) -> bool
     ensures { result ≡ list_all (list_any (held by)) (map clause_of clauses.now) }
 {
     clauses.iter().all(|clause| clause.is_one_held(by))
+}
+
+// The lowest number of a clause that does not hold in the sheet, as they are numbered in file order from 0.
+pub fn first_broken_clause(clauses: &[Clause], sheet: Sheet) -> Option<usize>
+    ensures { MatchOption result (kept (map clause_of clauses.now) sheet ≡ true) (FirstBrokenClause (map clause_of clauses.now) sheet) }
+{
+    let by = Interpretation::of_sheet(sheet);
+    clauses.iter().position(|clause| !clause.is_one_held(by))
 }
 
 impl Judge for PrinterList {
