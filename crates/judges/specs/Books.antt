@@ -1,7 +1,7 @@
 -- The book as a judge: the answer sets of the rules, and the part-sheets that it calls dead.
 use Rattle.std.specs.Prelude.{ℕ, zero, suc, Bool, false, not, ◌&&◌, ◌||◌, List, nat_le, nat_lt}
 use Rattle.std.specs.List.{list_all, list_any}
-use Rattle.sheets.specs.Sheets.{Sheet, has, others, full}
+use Rattle.sheets.specs.Sheets.{Sheet, has, full}
 use Rattle.sheets.specs.Literals.{held, in_every, in_some}
 use Rattle.sheets.specs.Judging.{Judging}
 use Rattle.rulefile.specs.Model.{ConstraintModel, RuleModel, FileModel}

@@ -2,7 +2,7 @@
 use Rattle.std.specs.Prelude.{◌≡◌, ℕ, ◌<◌, Bool, true, false, not, ◌||◌, List, length, slice_index_or}
 use Rattle.sheets.specs.declared.literals.Literal.{Literal}
 use Rattle.std.specs.List.{list_all, list_any}
-use Rattle.sheets.specs.Sheets.{Sheet, Count, others, MarksBelow, within_count}
+use Rattle.sheets.specs.Sheets.{Sheet, Count, MarksBelow, within_count}
 use Rattle.sheets.specs.Literals.{held, holds, in_some}
 use Rattle.sheets.specs.Judging.{Judging}
 use Rattle.rulefile.specs.Model.{FileModel}

@@ -1,7 +1,7 @@
 -- What else is said of the definitions.
 use Rattle.std.specs.Prelude.{◌≡◌, List, Decides}
 use Rattle.sheets.specs.declared.literals.Literal.{Literal}
-use Rattle.sheets.specs.Sheets.{Sheet, others, Part, Within}
+use Rattle.sheets.specs.Sheets.{Sheet, Part, Within}
 use Rattle.sheets.specs.Literals.{held, Holds, in_every, in_some}
 use Rattle.rulefile.specs.Model.{RuleModel}
 use Rattle.judges.specs.declared.verdicts.Verdict.{Verdict}

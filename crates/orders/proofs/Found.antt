@@ -1,6 +1,6 @@
 -- What every search keeps: the sheet that is held is the best of those before the place.
 use Rattle.std.proofs.Common.{◌≡◌, ℕ, ◌+◌, ◌^◌, ◌<◌, ◌≤◌, true, false, ◌⊎◌, Some, None, Option, sym, refl, ap, ◌∙◌, subst, inl, inr, ⊎_elim, arith, pow_mono}
-use Rattle.std.proofs.lemmas.Bool.{both_ways, cases_lt, cases_Bool, or_cases, or_parts, not-true, not-false}
+use Rattle.std.proofs.lemmas.Bool.{both_ways, cases_lt, or_cases, or_parts, not-true, not-false}
 use Rattle.sheets.specs.Sheets.{width, has, MarksBelow, Part, Within, Full, Earlier}
 use Rattle.sheets.specs.Judging.{Judging, JudgeLaws}
 use Rattle.sheets.specs.Scaling.{Scaling, ScaleLaws}

@@ -1,5 +1,5 @@
 -- What a search shows that has come from the start, also where it is only known that it has.
-use Rattle.std.proofs.Common.{◌≡◌, ℕ, ◌+◌, ◌^◌, ◌<◌, ◌≤◌, Some, None, Option, sym, refl, ◌∙◌, subst, subst₂, inl, inr, ⊎_elim, arith, pow_mono}
+use Rattle.std.proofs.Common.{ℕ, ◌+◌, ◌^◌, ◌<◌, ◌≤◌, Some, None, Option, sym, refl, ◌∙◌, subst, subst₂, inl, inr, ⊎_elim, arith, pow_mono}
 use Rattle.std.proofs.Math.Logic.{∥∥₁_elim, ∥∥₁_map}
 use Rattle.std.proofs.Math.Bool.{Bool-set}
 use Rattle.std.specs.Coded.{Unit-prop, le_prop}

@@ -1,5 +1,5 @@
 -- A search goes through the sheets in their order.
-use Rattle.std.proofs.Common.{◌≡◌, ℕ, ◌<◌, ◌≤◌, true, false, ◌⊎◌, Some, None, Option, sym, refl, ap, ◌∙◌, subst, inl, inr, ⊎_elim, arith}
+use Rattle.std.proofs.Common.{◌≡◌, ℕ, ◌<◌, true, false, ◌⊎◌, Some, None, Option, sym, refl, ap, ◌∙◌, subst, inl, inr, ⊎_elim, arith}
 use Rattle.std.proofs.lemmas.Bool.{both_ways, cases_lt, cases_Bool, or_cases}
 use Rattle.sheets.specs.Sheets.{width, has, MarksBelow, Within, Earlier}
 use Rattle.sheets.specs.Judging.{Judging, JudgeLaws}

@@ -1,5 +1,5 @@
 -- The cheapest sheet, and which of two answers costs more.
-use Rattle.std.specs.Prelude.{◌≡◌, ℕ, true, false, Some, None, Option}
+use Rattle.std.specs.Prelude.{◌≡◌, true, false, Some, None, Option}
 use Rattle.sheets.specs.Sheets.{Sheet, Earlier}
 use Rattle.sheets.specs.Judging.{Judging}
 use Rattle.sheets.specs.Scaling.{Scaling}

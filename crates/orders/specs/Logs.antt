@@ -15,7 +15,6 @@ use Rattle.orders.specs.Search.{Search}
 use Rattle.orders.specs.Acts.{under}
 use Rattle.orders.specs.Dockets.{refused_act, undo_refused, after_act, after_undo, returned}
 use Rattle.orders.specs.Searches.{start, Steps, priced}
-use Rattle.orders.specs.Places.{Before}
 use Rattle.orders.specs.Best.{Best, CostsAtMost}
 use Rattle.orders.specs.Calls.{Showing, ShowsCheapest}
 use Rattle.orders.specs.Stages.{marking, Effect, adds, takes_off, begins, takes_steps, ends, moves, row, calls_had}

@@ -1,5 +1,5 @@
 -- A place by its present and its absent marks: which marks it decides, and which sheets lie before it.
-use Rattle.std.specs.Prelude.{◌≡◌, ℕ, ◌<◌, ◌≤◌, Bool, true, false, ◌⊎◌, ◌↔◌}
+use Rattle.std.specs.Prelude.{◌≡◌, ◌<◌, ◌≤◌, Bool, true, false, ◌⊎◌, ◌↔◌}
 use Rattle.sheets.specs.Sheets.{Mark, Sheet, Count, width, has, Full}
 
 -- of the marks below the count the place decides exactly the first k; all marks from the count upward are absent

@@ -1,5 +1,5 @@
 -- Where a search stands.
-use Rattle.std.specs.Prelude.{ℕ, Bool, Option}
+use Rattle.std.specs.Prelude.{Bool, Option}
 use Rattle.sheets.specs.Sheets.{Sheet, Count}
 
 pub record Search : Type 0 where

@@ -1,6 +1,6 @@
 -- One search: its place, one step, and a number of steps.
-use Rattle.std.specs.Prelude.{◌≡◌, ℕ, zero, suc, ◌+◌, ◌-◌, ◌^◌, ◌<◌, ◌≤◌, min, Bool, true, false, if◌then◌else◌, not, ◌||◌, Some, None, Option, bit_and, bit_or}
-use Rattle.sheets.specs.Sheets.{Sheet, Count, first_marks, width, has, others, full}
+use Rattle.std.specs.Prelude.{◌≡◌, ℕ, zero, suc, ◌+◌, ◌-◌, ◌^◌, ◌<◌, ◌≤◌, Bool, true, false, if◌then◌else◌, not, ◌||◌, Some, None, Option, bit_and, bit_or}
+use Rattle.sheets.specs.Sheets.{Sheet, Count, first_marks, has, others, full}
 use Rattle.sheets.specs.Judging.{Judging}
 use Rattle.sheets.specs.Scaling.{Scaling}
 use Rattle.orders.specs.Search.{Search}

@@ -1,5 +1,5 @@
 -- What a reader gives, piece by piece, stands in the buffer.
-use Rattle.std.proofs.Common.{◌≡◌, ℕ, ◌+◌, ◌-◌, ◌<◌, ◌≤◌, List, [], ◌++◌, arith, length, length-append, take, drop, slice_range, Option, None, Some, IfSome, sym, ap, ◌∙◌, subst, ⊎_elim, le_refl, append-nil, take_all, drop_at, drop_of_length-le, length-take-le}
+use Rattle.std.proofs.Common.{◌≡◌, ℕ, ◌+◌, ◌-◌, ◌<◌, ◌≤◌, List, [], ◌++◌, arith, length, take, drop, slice_range, Option, None, Some, IfSome, sym, ap, ◌∙◌, subst, ⊎_elim, le_refl, append-nil, take_all, drop_at, drop_of_length-le, length-take-le}
 use Rattle.std.proofs.lemmas.Bool.{cases_lt}
 use Rattle.std.proofs.lemmas.Slice.{take-put_mid_below}
 use Rattle.std.specs.Io.KnownBytes.{Keeps, Consumes, IsAtEnd}

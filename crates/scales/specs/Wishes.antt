@@ -3,7 +3,7 @@
 use Rattle.std.specs.Prelude.{◌≡◌, ℕ, zero, suc, ◌-◌, ◌<◌, Bool, true, false, cond, ◌&&◌, List, [], ◌∷◌, ℤ, pos, ◌+ℤ◌, ◌<ℤ◌, ◌==◌, int_lt, nat_le, slice_index_or}
 use Rattle.std.specs.Int.{int_min}
 use Rattle.std.specs.List.{list_all, list_any}
-use Rattle.sheets.specs.Sheets.{Sheet, others}
+use Rattle.sheets.specs.Sheets.{Sheet}
 use Rattle.sheets.specs.Literals.{held, holds, in_every, in_some}
 use Rattle.total_order.specs.Orders.{first_decides}
 use Rattle.rulefile.specs.Ranges.{top_level}

@@ -1,5 +1,5 @@
 -- What a scale means, the laws that it keeps, and the scale that is made of two.
-use Rattle.std.specs.Prelude.{◌≡◌, Bool, true, false}
+use Rattle.std.specs.Prelude.{◌≡◌, Bool, false}
 use Rattle.total_order.specs.Orders.{OrderLaws, first_decides}
 use Rattle.sheets.specs.Sheets.{Sheet, Part, Within, Full}
 

@@ -6,7 +6,7 @@ use Rattle.std.specs.List.{AllByRecursion}
 use Rattle.std.proofs.ByRecursion.{All-append}
 use Rattle.std.proofs.lemmas.Bool.{both_ways, cases_Bool, and_from, and_parts, and_cases, and_left, and_right, or_cases, or_parts, or_from, not-true, not-false, leb-true, le-leb, lt-leb, ltb-true}
 use Rattle.std.specs.List.{list_all, list_any}
-use Rattle.sheets.specs.Sheets.{has, others, Part, Within, full, MarksBelow}
+use Rattle.sheets.specs.Sheets.{has, Part, Within, full, MarksBelow}
 use Rattle.sheets.specs.Literals.{held, holds, in_every, in_some}
 use Rattle.sheets.specs.Judging.{JudgeLaws}
 use Rattle.sheets.specs.laws.Bits.{has_and, has_first, below_marks}

@@ -3,7 +3,7 @@ use Rattle.std.specs.Prelude.{◌≡◌, ℕ, ◌^◌, true, not, nat_lt}
 use Rattle.std.proofs.Common.{sym, ap, ◌∙◌, ⊎_elim, arith}
 use Rattle.std.proofs.lemmas.Bool.{both_ways, or_cases, or_parts, not-true, not-false, lt-ltb, ltb-true}
 use Rattle.std.specs.List.{list_all, list_any}
-use Rattle.sheets.specs.Sheets.{others, Part, Within}
+use Rattle.sheets.specs.Sheets.{Part, Within}
 use Rattle.sheets.specs.Literals.{held, holds, by_words, in_some}
 use Rattle.sheets.specs.Judging.{JudgeLaws}
 use Rattle.sheets.specs.laws.Bits.{below_marks, marks_below}

@@ -1,10 +1,10 @@
 -- Lemmas; no contract names what stands here. Where two words differ, and the laws of the distance.
-use Rattle.std.specs.Prelude.{◌≡◌, ℕ, ◌+◌, ◌/◌, ◌%◌, ◌^◌, ◌<◌, true, cond, not, ◌&&◌, ◌||◌, ◌==◌, bit_xor, nat_eq, nat_lt}
-use Rattle.std.proofs.Common.{sym, ap, ◌∙◌, inl, inr, ⊎_elim, arith}
+use Rattle.std.specs.Prelude.{◌≡◌, ℕ, ◌+◌, ◌/◌, ◌%◌, ◌^◌, ◌<◌, true, cond, not, ◌&&◌, ◌||◌, ◌==◌, bit_xor, nat_eq}
+use Rattle.std.proofs.Common.{sym, ap, ◌∙◌, ⊎_elim, arith}
 use Rattle.std.proofs.lemmas.Nat.{xor_shr}
 use Rattle.std.specs.Int.Bits.{xor_add_and}
 use Rattle.std.proofs.lemmas.Bool.Decides.{nat_tests}
-use Rattle.std.proofs.lemmas.Bool.{cases_order, lt-ltb, le-ltb, ltb-true, and_parts, or_cases, or_left, or_right}
+use Rattle.std.proofs.lemmas.Bool.{le-ltb, and_parts, or_cases, or_left, or_right}
 use Rattle.sheets.specs.Sheets.{width, has, Part, Within}
 use Rattle.sheets.specs.Scaling.{ScaleLaws}
 use Rattle.sheets.specs.laws.Parts.{apart_turned}

@@ -6,7 +6,7 @@ use Rattle.std.specs.Int.{int_min}
 use Rattle.std.proofs.lemmas.Int.{ints, clamps}
 use Rattle.std.proofs.lemmas.Bool.{both_ways, cases_Bool, cond_both, and_from, and_parts, or_cases, or_parts, leb-true, le-leb, eqb-true}
 use Rattle.std.specs.List.{list_all, list_any}
-use Rattle.sheets.specs.Sheets.{others, Part, Within, Full}
+use Rattle.sheets.specs.Sheets.{Part, Within, Full}
 use Rattle.sheets.specs.Literals.{held, holds, by_words, in_every, in_some}
 use Rattle.sheets.specs.Scaling.{ScaleLaws}
 use Rattle.sheets.specs.laws.Parts.{full_others}

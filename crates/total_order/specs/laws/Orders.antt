@@ -1,6 +1,6 @@
 -- Lemmas; no contract names what stands here. What follows from the laws of a total order, and orders in which a first part
 -- decides before the rest.
-use Rattle.std.specs.Prelude.{◌≡◌, Bool, true, false, not, ◌&&◌, ◌||◌, ◌⊎◌, nat_lt, refl}
+use Rattle.std.specs.Prelude.{◌≡◌, Bool, true, false, not, ◌&&◌, ◌||◌, ◌⊎◌, nat_lt}
 use Rattle.std.proofs.Common.{sym, ap, ap₂, ◌∙◌, inl, inr, ⊎_elim, arith}
 use Rattle.std.proofs.lemmas.Bool.{both_ways, cases_Bool, cases_order, or_left, or_from, and_right, lt-ltb, le-ltb, ltb-true}
 use Rattle.total_order.specs.Orders.{OrderLaws, first_decides}
