@@ -1,0 +1,146 @@
+// The fault of a refused file, in words. docs/REFUSALS.md has an example of each.
+use crate::faults::{Fault, Field, Found, Part};
+use rulefile::Kind;
+use std::fmt;
+use std::fmt::Formatter;
+
+// The name of a kind.
+fn kind_name(kind: Kind) -> &'static str {
+    match kind {
+        Kind::Head => "head",
+        Kind::Rule => "rule",
+        Kind::Clause => "clause",
+        Kind::Wish => "wish",
+        Kind::Act => "act",
+    }
+}
+
+// Displays which constraint it is.
+#[derive(Clone, Copy)]
+struct PartText(Part);
+
+impl fmt::Display for PartText {
+    fn fmt<W: fmt::Write>(&self, f: &mut Formatter<W>) -> fmt::Result {
+        match self.0 {
+            Part::Head => f.write_str("head constraint"),
+            Part::Body(number) => write!(f, "body constraint {number}"),
+        }
+    }
+}
+
+// Displays which field of a body it is.
+#[derive(Clone, Copy)]
+struct FieldText(Field);
+
+impl FieldText {
+    // A field of a constraint.
+    fn in_part<W: fmt::Write>(f: &mut Formatter<W>, part: Part, name: &str) -> fmt::Result {
+        let part = PartText(part);
+        write!(f, "{part}, {name}")
+    }
+
+    // The same of an element with a number.
+    fn of_element<W: fmt::Write>(
+        f: &mut Formatter<W>,
+        part: Part,
+        name: &str,
+        number: u8,
+    ) -> fmt::Result {
+        FieldText::in_part(f, part, name)?;
+        write!(f, " {number}")
+    }
+}
+
+impl fmt::Display for FieldText {
+    fn fmt<W: fmt::Write>(&self, f: &mut Formatter<W>) -> fmt::Result {
+        match self.0 {
+            Field::Count => f.write_str("count"),
+            Field::HouseSheet => f.write_str("house sheet"),
+            Field::BodyCount => f.write_str("number of body constraints"),
+            Field::LowBound(part) => FieldText::in_part(f, part, "low bound"),
+            Field::HighBound(part) => FieldText::in_part(f, part, "high bound"),
+            Field::ElementCount(part) => FieldText::in_part(f, part, "element count"),
+            Field::Element(part, number) => FieldText::of_element(f, part, "element", number),
+            Field::ElementWeight(part, number) => FieldText::of_element(
+                f,
+                part,
+                "weight of element",
+                number,
+            ),
+            Field::LiteralCount => f.write_str("literal count"),
+            Field::Literal(number) => write!(f, "literal {number}"),
+            Field::Level => f.write_str("level"),
+            Field::Weight => f.write_str("weight"),
+            Field::Code => f.write_str("code"),
+            Field::Mark => f.write_str("mark"),
+            Field::Sheet => f.write_str("sheet"),
+        }
+    }
+}
+
+// Displays what was found and what is allowed.
+#[derive(Clone, Copy)]
+struct FoundText(Found);
+
+impl FoundText {
+    // What was found in a field of a body.
+    fn in_field<W: fmt::Write>(f: &mut Formatter<W>, field: Field) -> fmt::Result {
+        let field = FieldText(field);
+        write!(f, "{field}: ")
+    }
+}
+
+impl fmt::Display for FoundText {
+    fn fmt<W: fmt::Write>(&self, f: &mut Formatter<W>) -> fmt::Result {
+        match self.0 {
+            Found::FileLength(size) => write!(f, "{size} bytes or more, allowed at most 32768"),
+            Found::Cut(left) => write!(f, "length: {left} bytes left, it takes 4"),
+            Found::Length(size) => write!(f, "length: {size}, allowed 2 to 1024"),
+            Found::PastEnd(size, left) => write!(
+                f,
+                "length: {size}, with {left} bytes left after it"
+            ),
+            Found::UnknownKind(code) => write!(f, "kind: {code}, allowed 1 to 5"),
+            Found::NoHead(code) => write!(f, "kind: {code}, allowed 1 alone in record 0"),
+            Found::SecondHead => f.write_str("kind: 1, allowed 2 to 5 after record 0"),
+            Found::TooMany => f.write_str("number of its kind: 257, allowed at most 256"),
+            Found::Missing(field, left, size) => {
+                FoundText::in_field(f, field)?;
+                write!(f, "{left} bytes left, it takes {size}")
+            }
+            Found::LeftOver(left) => write!(f, "{left} bytes left over after the last field"),
+            Found::Number(field, value, low, high) => {
+                FoundText::in_field(f, field)?;
+                write!(f, "{value}, allowed {low} to {high}")
+            }
+            Found::Mark(field, mark, count) => {
+                FoundText::in_field(f, field)?;
+                write!(f, "mark {mark}, allowed below {count}")
+            }
+        }
+    }
+}
+
+// Displays a fault: the record, its kind, the field, what was found and what is allowed.
+#[derive(Clone, Copy)]
+pub struct FaultText(pub Fault);
+
+impl fmt::Display for FaultText {
+    fn fmt<W: fmt::Write>(&self, f: &mut Formatter<W>) -> fmt::Result {
+        let Fault {
+            record,
+            kind,
+            found,
+        } = self.0;
+        match found {
+            Found::FileLength(_) => f.write_str("the file: ")?,
+            _ => write!(f, "record {record}, ")?,
+        }
+        if let Some(kind) = kind {
+            let name = kind_name(kind);
+            write!(f, "{name}, ")?;
+        }
+        let found = FoundText(found);
+        write!(f, "{found}")
+    }
+}
