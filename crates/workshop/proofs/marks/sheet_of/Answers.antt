@@ -1,7 +1,7 @@
 use Rattle.std.proofs.Common.{ℕ, ◌+◌, ◌==◌, rules, refl, ap, sym, ◌∙◌, ◌||◌, get_or, drop, arith, lt-ltb, le-ltb}
 use Rattle.std.specs.List.{list_any}
 use Rattle.sheets.specs.Sheets.{has}
-use Rattle.sheets.specs.Bits.{has_none}
+use Rattle.sheets.specs.laws.Bits.{has_none}
 use Rattle.workshop.proofs.Listed.{below_more, not_below, one_more, none_left_below, none_left}
 use Rattle.workshop.proofs.marks.sheet_of.Goals as goal
 
