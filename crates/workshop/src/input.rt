@@ -20,13 +20,13 @@ fn read_bytes(rt: &HostRuntime, path: &Option<String>) -> anyhow::Result<Vec<u8>
     }
 }
 
-// Prints the refusal, and on standard error where its fault is.
+// Prints the refusal, and on standard error where its fault is. That this cannot be written is no failure.
 fn print_refusal(rt: &HostRuntime, bytes: &[u8], bad: BadFile) -> anyhow::Result<()> {
     let text = RefusalText(bad);
     print!(rt; "{text}")?;
     if let Some(fault) = fault_of(bytes, bad) {
         let text = FaultText(fault);
-        eprintln!(rt; "{text}")?;
+        let _ = eprintln!(rt; "{text}");
     }
     Ok(())
 }

@@ -7,7 +7,7 @@ use std::process::Abort;
 use std::test::Fail;
 
 // The file with two marks, this house sheet and these records is listed so.
-fn check_listing(
+fn check_lines(
     rt: &(impl Abort + AllocGlobal),
     house: u8,
     records: &[u8],
@@ -36,14 +36,14 @@ fn empty_lists(rt: HostRuntime) -> Result<(), Fail> {
     let lines = "head: 2 marks, house sheet {}\nclause: nothing\nrule 0: 0 or more of {}\n\
         house sheet: lawful\nhouse sheet: not printable by clause: nothing\n\
         sheet cost 0 0 0 0 0 0 0 0 off 0\n";
-    check_listing(&rt, 0, records, lines)
+    check_lines(&rt, 0, records, lines)
 }
 
 #[test]
 fn ungrounded_house(rt: HostRuntime) -> Result<(), Fail> {
     let lines = "head: 2 marks, house sheet {1}\nhouse sheet: ungrounded, nothing supports mark 1\n\
         house sheet: printable\nsheet 1 cost 0 0 0 0 0 0 0 0 off 0\n";
-    check_listing(&rt, 2, &[], lines)
+    check_lines(&rt, 2, &[], lines)
 }
 
 #[test]
@@ -52,7 +52,7 @@ fn broken_house(rt: HostRuntime) -> Result<(), Fail> {
     let lines = "head: 2 marks, house sheet {}\nrule 0: 1 to 2 of {not 1=5}\n\
         house sheet: broken by rule 0: 1 to 2 of {not 1=5}\nhouse sheet: printable\n\
         sheet cost 0 0 0 0 0 0 0 0 off 0\n";
-    check_listing(&rt, 0, records, lines)
+    check_lines(&rt, 0, records, lines)
 }
 
 // The lowest mark of all and the highest, in the house sheet and in a struck one. Rule 0 supports all marks.
@@ -76,7 +76,7 @@ fn broken_by_second(rt: HostRuntime) -> Result<(), Fail> {
         "head: 2 marks, house sheet {}\nrule 0: 0 or more of {}\nrule 1: 1 to 2 of {not 1=5}\n\
         house sheet: broken by rule 1: 1 to 2 of {not 1=5}\nhouse sheet: printable\n\
         sheet cost 0 0 0 0 0 0 0 0 off 0\n";
-    check_listing(&rt, 0, records, lines)
+    check_lines(&rt, 0, records, lines)
 }
 
 // The second of two clauses does not hold.
@@ -86,7 +86,7 @@ fn not_printable_house(rt: HostRuntime) -> Result<(), Fail> {
     let lines = "head: 2 marks, house sheet {1}\nclause: not 1\nclause: 0 or not 1\nclause: 0\n\
         house sheet: ungrounded, nothing supports mark 1\nhouse sheet: not printable by clause: not 1\n\
         sheet 1 cost 0 0 0 0 0 0 0 0 off 0\n";
-    check_listing(&rt, 2, records, lines)
+    check_lines(&rt, 2, records, lines)
 }
 
 // The bytes are refused with these words.
