@@ -1,6 +1,7 @@
 // The fault of a refused file, in words. docs/REFUSALS.md has an example of each.
 use crate::faults::{Fault, Field, Found, Part};
 use rulefile::Kind;
+use rulefile::limits::{LEAST_LENGTH, MOST_BYTES, MOST_LENGTH, MOST_OF_KIND};
 use std::fmt;
 use std::fmt::Formatter;
 
@@ -83,40 +84,73 @@ impl fmt::Display for FieldText {
 struct FoundText(Found);
 
 impl FoundText {
-    // What was found in a field of a body.
-    fn in_field<W: fmt::Write>(f: &mut Formatter<W>, field: Field) -> fmt::Result {
+    // A field of a body that is missing.
+    fn missing<W: fmt::Write>(
+        f: &mut Formatter<W>,
+        field: Field,
+        left: usize,
+        size: usize,
+    ) -> fmt::Result {
         let field = FieldText(field);
-        write!(f, "{field}: ")
+        write!(f, "{field}: {left} bytes left, it takes {size}")
+    }
+
+    // A number in a field of a body.
+    fn number<W: fmt::Write>(
+        f: &mut Formatter<W>,
+        field: Field,
+        value: i32,
+        low: i32,
+        high: i32,
+    ) -> fmt::Result {
+        let field = FieldText(field);
+        write!(f, "{field}: {value}, allowed {low} to {high}")
+    }
+
+    // A mark in a field of a body.
+    fn mark<W: fmt::Write>(f: &mut Formatter<W>, field: Field, mark: u8, count: u8) -> fmt::Result {
+        let field = FieldText(field);
+        write!(f, "{field}: mark {mark}, allowed below {count}")
+    }
+
+    // The number of a kind, where the kinds to the last are allowed.
+    fn kind<W: fmt::Write>(f: &mut Formatter<W>, code: u16) -> fmt::Result {
+        let first = Kind::Head.number();
+        let last = Kind::Act.number();
+        write!(f, "kind: {code}, allowed {first} to {last}")
+    }
+
+    // The length of a record.
+    fn length<W: fmt::Write>(f: &mut Formatter<W>, size: u32) -> fmt::Result {
+        write!(f, "length: {size}, allowed {LEAST_LENGTH} to {MOST_LENGTH}")
     }
 }
 
 impl fmt::Display for FoundText {
     fn fmt<W: fmt::Write>(&self, f: &mut Formatter<W>) -> fmt::Result {
         match self.0 {
-            Found::FileLength(size) => write!(f, "{size} bytes or more, allowed at most 32768"),
+            Found::FileLength(size) => write!(
+                f,
+                "{size} bytes or more, allowed at most {MOST_BYTES}"
+            ),
             Found::Cut(left) => write!(f, "length: {left} bytes left, it takes 4"),
-            Found::Length(size) => write!(f, "length: {size}, allowed 2 to 1024"),
+            Found::Length(size) => FoundText::length(f, size),
             Found::PastEnd(size, left) => write!(
                 f,
                 "length: {size}, with {left} bytes left after it"
             ),
-            Found::UnknownKind(code) => write!(f, "kind: {code}, allowed 1 to 5"),
+            Found::UnknownKind(code) => FoundText::kind(f, code),
             Found::NoHead(code) => write!(f, "kind: {code}, allowed 1 alone in record 0"),
             Found::SecondHead => f.write_str("kind: 1, allowed 2 to 5 after record 0"),
-            Found::TooMany => f.write_str("number of its kind: 257, allowed at most 256"),
-            Found::Missing(field, left, size) => {
-                FoundText::in_field(f, field)?;
-                write!(f, "{left} bytes left, it takes {size}")
-            }
+            Found::TooMany => write!(
+                f,
+                "number of its kind: {}, allowed at most {MOST_OF_KIND}",
+                MOST_OF_KIND + 1
+            ),
+            Found::Missing(field, left, size) => FoundText::missing(f, field, left, size),
             Found::LeftOver(left) => write!(f, "{left} bytes left over after the last field"),
-            Found::Number(field, value, low, high) => {
-                FoundText::in_field(f, field)?;
-                write!(f, "{value}, allowed {low} to {high}")
-            }
-            Found::Mark(field, mark, count) => {
-                FoundText::in_field(f, field)?;
-                write!(f, "mark {mark}, allowed below {count}")
-            }
+            Found::Number(field, value, low, high) => FoundText::number(f, field, value, low, high),
+            Found::Mark(field, mark, count) => FoundText::mark(f, field, mark, count),
         }
     }
 }

@@ -4,13 +4,8 @@ ghost use Rattle.std.specs.Prelude.{◌≡◌, IfSome};
 ghost use Rattle.workshop.specs.Faults.{why_of};
 
 use crate::walk::{Record, Records, Walk, cut};
+use rulefile::limits::{MOST_BYTES, MOST_OF_KIND};
 use rulefile::{BadFile, Kind, Refusal};
-
-// How many bytes a file can have.
-const MOST_BYTES: usize = 32_768;
-
-// How many records of one kind a file can have.
-const MOST_OF_KIND: usize = 256;
 
 // Which constraint of a rule.
 #[derive(Clone, Copy)]

@@ -3,7 +3,11 @@ ghost use Rattle.std.specs.Prelude.{◌<◌, length, IfOk};
 
 use crate::faults::{Field, Found, Part};
 use rulefile::Kind;
-use sheets::{Mark, WIDTH, has_mark, within_count};
+use rulefile::limits::{
+    LEAST_LENGTH, MOST_CLAUSE_LITERALS, MOST_CODE, MOST_CONSTRAINTS, MOST_ELEMENTS, MOST_LENGTH,
+    MOST_MARKS, MOST_WEIGHT, MOST_WISH_LITERALS, NOT, TOP_LEVEL,
+};
+use sheets::{Mark, has_mark, within_count};
 
 // A record: the number of its kind, its body, and the bytes after it.
 #[derive(Drop)]
@@ -21,7 +25,7 @@ pub fn cut(bytes: &[u8]) -> Result<Record<'_>, Found>
         return Err(Found::Cut(bytes.len()));
     };
     let size = u32::from_le_bytes(*size);
-    if !(2..=1024).contains(&size) {
+    if !(LEAST_LENGTH..=MOST_LENGTH).contains(&size) {
         return Err(Found::Length(size));
     }
     let [k0, k1, rest @ ..] = rest else {
@@ -90,7 +94,7 @@ impl Walk<'_> {
     // A literal byte.
     fn literal(&mut self, field: Field) -> Result<(), Found> {
         let [byte] = self.bytes::<1>(field)?;
-        let mark: Mark = byte % 128;
+        let mark: Mark = byte % NOT;
         if mark >= self.count {
             return Err(Found::Mark(field, mark, self.count));
         }
@@ -110,7 +114,7 @@ impl Walk<'_> {
     fn constraint(&mut self, part: Part) -> Result<(), Found> {
         self.bytes::<4>(Field::LowBound(part))?;
         self.bytes::<4>(Field::HighBound(part))?;
-        let n = self.number(Field::ElementCount(part), 0, 32)?;
+        let n = self.number(Field::ElementCount(part), 0, MOST_ELEMENTS)?;
         for i in 0..n {
             self.literal(Field::Element(part, i))?;
             self.bytes::<2>(Field::ElementWeight(part, i))?;
@@ -120,18 +124,18 @@ impl Walk<'_> {
 
     // The body of a head.
     fn head(&mut self) -> Result<(), Found> {
-        let count = self.number(Field::Count, 1, WIDTH)?;
+        let count = self.number(Field::Count, 1, MOST_MARKS)?;
         let house = u64::from_le_bytes(self.bytes(Field::HouseSheet)?);
         if within_count(house, count) {
             return Ok(());
         }
-        let mark = (count..WIDTH).find(|mark| has_mark(house, *mark));
+        let mark = (count..MOST_MARKS).find(|mark| has_mark(house, *mark));
         Err(Found::Mark(Field::HouseSheet, mark.unwrap_or(count), count))
     }
 
     // The body of a rule.
     fn rule(&mut self) -> Result<(), Found> {
-        let n = self.number(Field::BodyCount, 0, 8)?;
+        let n = self.number(Field::BodyCount, 0, MOST_CONSTRAINTS)?;
         self.constraint(Part::Head)?;
         for i in 0..n {
             self.constraint(Part::Body(i))?;
@@ -141,17 +145,18 @@ impl Walk<'_> {
 
     // The body of a wish.
     fn wish(&mut self) -> Result<(), Found> {
-        self.number(Field::Level, 1, 8)?;
+        self.number(Field::Level, 1, TOP_LEVEL)?;
         let weight = i16::from_le_bytes(self.bytes(Field::Weight)?);
-        if !(-10_000..=10_000).contains(&weight) {
-            return Err(Found::Number(Field::Weight, weight.into(), -10_000, 10_000));
+        if !(-MOST_WEIGHT..=MOST_WEIGHT).contains(&weight) {
+            let most: i32 = MOST_WEIGHT.into();
+            return Err(Found::Number(Field::Weight, weight.into(), -most, most));
         }
-        self.literals(1, 16)
+        self.literals(1, MOST_WISH_LITERALS)
     }
 
     // The body of an act.
     fn act(&mut self) -> Result<(), Found> {
-        match self.number(Field::Code, 1, 4)? {
+        match self.number(Field::Code, 1, MOST_CODE)? {
             1 | 2 => {
                 self.bytes::<1>(Field::Mark)?;
             }
@@ -168,7 +173,7 @@ impl Walk<'_> {
         match kind {
             Kind::Head => self.head()?,
             Kind::Rule => self.rule()?,
-            Kind::Clause => self.literals(0, 32)?,
+            Kind::Clause => self.literals(0, MOST_CLAUSE_LITERALS)?,
             Kind::Wish => self.wish()?,
             Kind::Act => self.act()?,
         }
