@@ -2,7 +2,7 @@
 use Rattle.std.specs.Prelude.{ℕ, List, [], ◌∷◌, ◌++◌, ℤ, Some, None, codes, decimal, filter, Option}
 use Rattle.std.specs.List.{range_with_len, flat_map}
 use Rattle.std.specs.Fmt.{signed_decimal}
-use Rattle.sheets.specs.Sheets.{width, has}
+use Rattle.sheets.specs.Sheets.{Sheet, width, has}
 use Rattle.rulefile.specs.declared.refusals.BadFile.{BadFile}
 use Rattle.rulefile.specs.declared.records.Act.{Act}
 use Rattle.rulefile.specs.declared.records.Act.TheVariants.{Pin, Bar, Strike, Undo}
@@ -75,6 +75,6 @@ unfoldable pub no_sheet_line : List ℕ
 no_sheet_line = codes "no sheet" ++ line_end
 
 -- the line of the sheet z with what the wishes of the file cost at each level, and its distance from the house sheet
-abbrev pub answer_line : FileModel → Option ℕ → List ℕ
+abbrev pub answer_line : FileModel → Option Sheet → List ℕ
 answer_line f None = no_sheet_line
 answer_line f (Some z) = sheet_line z (down_from top (sum_at (wish_cost z) f.wishes)) ((distance_of f.house).cost z)

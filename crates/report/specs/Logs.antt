@@ -1,6 +1,7 @@
 -- The text of a log of the calls on an order.
 use Rattle.std.specs.Prelude.{◌≡◌, ℕ, List, [], ◌∷◌, ◌++◌, map, Some, None, Option}
 use Rattle.std.specs.List.{flat_map}
+use Rattle.sheets.specs.Sheets.{Sheet}
 use Rattle.sheets.specs.Judging.{Judging}
 use Rattle.sheets.specs.Scaling.{Scaling}
 use Rattle.rulefile.specs.declared.records.Act.{Act}
@@ -22,14 +23,15 @@ abbrev pub calls_for : List Act → List Call
 calls_for acts = map call_of acts ++ (Seek ∷ Settle ∷ [])
 
 -- the line of a settled sheet with its cost, or of no sheet
-abbrev pub final_text : Option (ℕ × (LevelCost × ℕ)) → List ℕ
+abbrev pub final_text : Option (Sheet × (LevelCost × ℕ)) → List ℕ
 final_text None = no_sheet_line
 final_text (Some a) = sheet_line a.0 (down_from top (cost_at a.1.0.levels)) a.1.1
 
 -- the text of an order over the judge and the scale after the acts: a line for each act, and that of the cheapest sheet that
 -- keeps those that then stand, or of no sheet
 pub record IsOrderText (j : Judging) (s : Scaling (LevelCost × ℕ)) (acts : List Act) (text : List ℕ) : Type 0 where
-  pub held : Option ℕ
+  -- the sheet that is held when the search ends, if there is one
+  pub held : Option Sheet
   pub best : Best (under j (docket j.count (map call_of acts))) s (priced s held)
   pub lines : text ≡ act_lines j.count [] acts ++ final_text (priced s held)
 

@@ -1,5 +1,6 @@
 -- What the report on a file is, and what the call promises.
 use Rattle.std.specs.Prelude.{◌≡◌, ℕ, ◌<◌, ◌≤◌, List, [], ◌++◌, map, length, drop, Ok, Err, Option, Result}
+use Rattle.sheets.specs.Sheets.{Sheet}
 use Rattle.sheets.specs.Judging.{Judging, both}
 use Rattle.sheets.specs.Scaling.{Scaling, first_then}
 use Rattle.rulefile.specs.declared.refusals.BadFile.{BadFile}
@@ -37,7 +38,7 @@ left_open f = under (judge_of f) (docket f.count (map call_of f.acts))
 abbrev pub IsReport : Result FileModel BadFile → List ℕ → Type 0
 IsReport (Err bad) lines = lines ≡ bad_file_line bad
 IsReport (Ok f) lines =
-    (held : Option ℕ) × Best (left_open f) (scale_of f) (priced (scale_of f) held) × (lines ≡ act_lines f.count [] f.acts ++ answer_line f held)
+    (held : Option Sheet) × Best (left_open f) (scale_of f) (priced (scale_of f) held) × (lines ≡ act_lines f.count [] f.acts ++ answer_line f held)
 
 -- how many bytes a buffer has at least
 abbrev pub least_buffer : ℕ

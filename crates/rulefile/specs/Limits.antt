@@ -1,7 +1,7 @@
 -- The limits that every file keeps, as tests.
-use Rattle.std.specs.Prelude.{◌^◌, Bool, true, ◌&&◌, List, length, nat_le, nat_lt}
+use Rattle.std.specs.Prelude.{Bool, true, ◌&&◌, List, length, nat_le, nat_lt}
 use Rattle.std.specs.List.{list_all}
-use Rattle.sheets.specs.Sheets.{Count, width}
+use Rattle.sheets.specs.Sheets.{Count, width, within_count}
 use Rattle.sheets.specs.declared.literals.Literal.{Literal}
 use Rattle.rulefile.specs.declared.constraints.Element.{Element}
 use Rattle.rulefile.specs.declared.records.Kind.{Kind}
@@ -37,4 +37,4 @@ is_list_fit f k = list_all (item_below k f.count) (list_of k f) && nat_le (lengt
 
 -- the count is from 1 to the width, each mark of the house sheet is below it, and each list is fit
 unfoldable pub is_fit : FileModel → Bool
-is_fit f = nat_le 1 f.count && (nat_le f.count width && (nat_lt f.house (2 ^ f.count) && list_all (is_list_fit f) all_kinds))
+is_fit f = nat_le 1 f.count && (nat_le f.count width && (within_count f.count f.house && list_all (is_list_fit f) all_kinds))

@@ -114,14 +114,14 @@ impl fmt::Display for CostText {
 
 // Displays what is said of a sheet, a line for each.
 #[derive(Clone, Copy)]
-pub struct SheetText<'a> {
+pub struct FactsText<'a> {
     pub file: &'a RuleFile,
     pub facts: SheetFacts,
     // Stands before the verdict, and before the line that says whether the sheet can be printed.
     pub name: &'static str,
 }
 
-impl fmt::Display for SheetText<'_> {
+impl fmt::Display for FactsText<'_> {
     fn fmt<W: fmt::Write>(&self, f: &mut Formatter<W>) -> fmt::Result {
         let file = self.file;
         let name = self.name;

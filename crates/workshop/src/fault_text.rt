@@ -1,5 +1,5 @@
 // The fault of a refused file, in words. docs/REFUSALS.md has an example of each.
-use crate::faults::{Fault, Field, Found, Part};
+use crate::faults::{Fault, Field, Found, RulePart};
 use rulefile::Kind;
 use rulefile::limits::{LEAST_LENGTH, MOST_BYTES, MOST_LENGTH, MOST_OF_KIND};
 use std::fmt;
@@ -18,13 +18,13 @@ fn kind_name(kind: Kind) -> &'static str {
 
 // Displays which constraint it is.
 #[derive(Clone, Copy)]
-struct PartText(Part);
+struct RulePartText(RulePart);
 
-impl fmt::Display for PartText {
+impl fmt::Display for RulePartText {
     fn fmt<W: fmt::Write>(&self, f: &mut Formatter<W>) -> fmt::Result {
         match self.0 {
-            Part::Head => f.write_str("head constraint"),
-            Part::Body(number) => write!(f, "body constraint {number}"),
+            RulePart::Head => f.write_str("head constraint"),
+            RulePart::Body(number) => write!(f, "body constraint {number}"),
         }
     }
 }
@@ -35,15 +35,15 @@ struct FieldText(Field);
 
 impl FieldText {
     // A field of a constraint.
-    fn in_part<W: fmt::Write>(f: &mut Formatter<W>, part: Part, name: &str) -> fmt::Result {
-        let part = PartText(part);
+    fn in_part<W: fmt::Write>(f: &mut Formatter<W>, part: RulePart, name: &str) -> fmt::Result {
+        let part = RulePartText(part);
         write!(f, "{part}, {name}")
     }
 
     // The same of an element with a number.
     fn of_element<W: fmt::Write>(
         f: &mut Formatter<W>,
-        part: Part,
+        part: RulePart,
         name: &str,
         number: u8,
     ) -> fmt::Result {
@@ -120,6 +120,20 @@ impl FoundText {
         write!(f, "kind: {code}, allowed {first} to {last}")
     }
 
+    // The number of another kind in record 0, where a head alone is allowed.
+    fn no_head<W: fmt::Write>(f: &mut Formatter<W>, code: u16) -> fmt::Result {
+        let head = Kind::Head.number();
+        write!(f, "kind: {code}, allowed {head} alone in record 0")
+    }
+
+    // A head in a later record, where all other kinds are allowed.
+    fn second_head<W: fmt::Write>(f: &mut Formatter<W>) -> fmt::Result {
+        let head = Kind::Head.number();
+        let first = Kind::Rule.number();
+        let last = Kind::Act.number();
+        write!(f, "kind: {head}, allowed {first} to {last} after record 0")
+    }
+
     // The length of a record.
     fn length<W: fmt::Write>(f: &mut Formatter<W>, size: u32) -> fmt::Result {
         write!(f, "length: {size}, allowed {LEAST_LENGTH} to {MOST_LENGTH}")
@@ -140,8 +154,8 @@ impl fmt::Display for FoundText {
                 "length: {size}, with {left} bytes left after it"
             ),
             Found::UnknownKind(code) => FoundText::kind(f, code),
-            Found::NoHead(code) => write!(f, "kind: {code}, allowed 1 alone in record 0"),
-            Found::SecondHead => f.write_str("kind: 1, allowed 2 to 5 after record 0"),
+            Found::NoHead(code) => FoundText::no_head(f, code),
+            Found::SecondHead => FoundText::second_head(f),
             Found::TooMany => write!(
                 f,
                 "number of its kind: {}, allowed at most {MOST_OF_KIND}",

@@ -9,7 +9,7 @@ use rulefile::{BadFile, Kind, Refusal};
 
 // Which constraint of a rule.
 #[derive(Clone, Copy)]
-pub enum Part {
+pub enum RulePart {
     Head,
     // With its number.
     Body(u8),
@@ -21,11 +21,11 @@ pub enum Field {
     Count,
     HouseSheet,
     BodyCount,
-    LowBound(Part),
-    HighBound(Part),
-    ElementCount(Part),
-    Element(Part, u8),
-    ElementWeight(Part, u8),
+    LowBound(RulePart),
+    HighBound(RulePart),
+    ElementCount(RulePart),
+    Element(RulePart, u8),
+    ElementWeight(RulePart, u8),
     LiteralCount,
     Literal(u8),
     Level,
@@ -52,7 +52,7 @@ pub enum Found {
     NoHead(u16),
     // A head in a later record.
     SecondHead,
-    // The 257th record of its kind.
+    // `MOST_OF_KIND` records of its kind before it.
     TooMany,
     // So many bytes left for a field, and how many it takes.
     Missing(Field, usize, usize),

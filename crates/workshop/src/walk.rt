@@ -1,13 +1,13 @@
 // A walk through records and the fields of their bodies, which keeps nothing but the first fault.
 ghost use Rattle.std.specs.Prelude.{◌<◌, length, IfOk};
 
-use crate::faults::{Field, Found, Part};
+use crate::faults::{Field, Found, RulePart};
 use rulefile::Kind;
 use rulefile::limits::{
     LEAST_LENGTH, MOST_CLAUSE_LITERALS, MOST_CODE, MOST_CONSTRAINTS, MOST_ELEMENTS, MOST_LENGTH,
-    MOST_MARKS, MOST_WEIGHT, MOST_WISH_LITERALS, NOT, TOP_LEVEL,
+    MOST_MARKS, MOST_WEIGHT, MOST_WISH_LITERALS, NOT, SHEET_BYTES, TOP_LEVEL,
 };
-use sheets::{Mark, has_mark, within_count};
+use sheets::{Mark, Sheet, has_mark, within_count};
 
 // A record: the number of its kind, its body, and the bytes after it.
 #[derive(Drop)]
@@ -31,9 +31,9 @@ pub fn cut(bytes: &[u8]) -> Result<Record<'_>, Found>
     let [k0, k1, rest @ ..] = rest else {
         return Err(Found::PastEnd(size, rest.len()));
     };
-    let room = size as usize - 2;
+    let room = (size - LEAST_LENGTH) as usize;
     if room > rest.len() {
-        return Err(Found::PastEnd(size, rest.len() + 2));
+        return Err(Found::PastEnd(size, rest.len() + LEAST_LENGTH as usize));
     }
     let (body, after) = rest.split_at(room);
     Ok(Record {
@@ -111,7 +111,7 @@ impl Walk<'_> {
     }
 
     // A constraint.
-    fn constraint(&mut self, part: Part) -> Result<(), Found> {
+    fn constraint(&mut self, part: RulePart) -> Result<(), Found> {
         self.bytes::<4>(Field::LowBound(part))?;
         self.bytes::<4>(Field::HighBound(part))?;
         let n = self.number(Field::ElementCount(part), 0, MOST_ELEMENTS)?;
@@ -125,7 +125,7 @@ impl Walk<'_> {
     // The body of a head.
     fn head(&mut self) -> Result<(), Found> {
         let count = self.number(Field::Count, 1, MOST_MARKS)?;
-        let house = u64::from_le_bytes(self.bytes(Field::HouseSheet)?);
+        let house = Sheet::from_le_bytes(self.bytes::<SHEET_BYTES>(Field::HouseSheet)?);
         if within_count(house, count) {
             return Ok(());
         }
@@ -136,9 +136,9 @@ impl Walk<'_> {
     // The body of a rule.
     fn rule(&mut self) -> Result<(), Found> {
         let n = self.number(Field::BodyCount, 0, MOST_CONSTRAINTS)?;
-        self.constraint(Part::Head)?;
+        self.constraint(RulePart::Head)?;
         for i in 0..n {
-            self.constraint(Part::Body(i))?;
+            self.constraint(RulePart::Body(i))?;
         }
         Ok(())
     }
@@ -161,7 +161,7 @@ impl Walk<'_> {
                 self.bytes::<1>(Field::Mark)?;
             }
             3 => {
-                self.bytes::<8>(Field::Sheet)?;
+                self.bytes::<SHEET_BYTES>(Field::Sheet)?;
             }
             _ => {}
         }

@@ -1,5 +1,5 @@
 // The task `list`: a rule file in words, and what is said of its house sheet.
-use crate::facts::{SheetFacts, SheetText};
+use crate::facts::{FactsText, SheetFacts};
 use crate::input::read_file;
 use crate::text::FileText;
 use crate::words::Words;
@@ -39,7 +39,7 @@ impl List {
 // The records of the file, and what is said of its house sheet.
 pub fn lines_of(heap: Global, file: &Rc<RuleFile>) -> Result<String, AllocError> {
     let text = FileText { file };
-    let house = SheetText {
+    let house = FactsText {
         file,
         facts: SheetFacts::new(file, file.house)?,
         name: "house sheet: ",

@@ -1,5 +1,5 @@
 // The task `verdict`: what is said of the sheet of given marks. The acts of the file play no part.
-use crate::facts::{SheetFacts, SheetText};
+use crate::facts::{FactsText, SheetFacts};
 use crate::input::read_file;
 use crate::marks::{mark_of, sheet_of};
 use crate::words::Words;
@@ -43,7 +43,7 @@ impl Verdict {
 pub fn lines_of(heap: Global, file: &Rc<RuleFile>, marks: &[Mark]) -> Result<String, AllocError> {
     match sheet_of(marks, file.count) {
         Ok(sheet) => {
-            let text = SheetText {
+            let text = FactsText {
                 file,
                 facts: SheetFacts::new(file, sheet)?,
                 name: "",
