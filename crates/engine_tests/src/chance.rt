@@ -3,7 +3,7 @@ use crate::books::{Tally, try_book};
 use crate::costs::try_costs;
 use crate::draws::Draw;
 use crate::expected::expected_of;
-use crate::reports::report_of;
+use crate::reports::{press_of, report_of};
 use rulefile::read;
 use std::fmt;
 use std::fmt::Formatter;
@@ -22,6 +22,8 @@ struct Found {
     acts: u64,
     refused: u64,
     reports_differ: u64,
+    pressed: u64,
+    presses_differ: u64,
 }
 
 impl fmt::Display for Found {
@@ -34,14 +36,20 @@ impl fmt::Display for Found {
             acts,
             refused,
             reports_differ,
+            pressed,
+            presses_differ,
         } = *self;
         writeln!(
             f,
             "{BOOKS} random books: sheets: {sheets}; costs: {costs_differ} differ"
         )?;
-        write!(
+        writeln!(
             f,
             "reports: {with_sheet} with a sheet, {shared} of them with others of its cost, {acts} acts, {refused} refused, {reports_differ} differ"
+        )?;
+        write!(
+            f,
+            "presses: {pressed} with a sheet, {presses_differ} differ"
         )
     }
 }
@@ -53,7 +61,8 @@ fn run_book(rt: &HostRuntime, number: u64, found: &mut Found) -> anyhow::Result<
     let file = Rc::new(heap, read(heap, bytes.as_slice())?)?;
     let expected = expected_of(heap, &file)?;
     let is_different = report_of(heap, bytes.as_slice())?.as_slice() != expected.lines.as_bytes();
-    if is_different {
+    let is_pressed_otherwise = press_of(heap, &file)?.as_slice() != expected.pressed.as_bytes();
+    if is_different || is_pressed_otherwise {
         println!(rt; "random book {number} DIFFERS")?;
     }
     let costs_differ = try_costs(&file)?;
@@ -64,6 +73,10 @@ fn run_book(rt: &HostRuntime, number: u64, found: &mut Found) -> anyhow::Result<
     found.acts = found.acts.wrapping_add(file.acts.len() as u64);
     found.refused = found.refused.wrapping_add(expected.refused as u64);
     found.reports_differ = found.reports_differ.wrapping_add(u64::from(is_different));
+    found.pressed = found.pressed.wrapping_add(u64::from(expected.has_pressed));
+    found.presses_differ = found
+        .presses_differ
+        .wrapping_add(u64::from(is_pressed_otherwise));
     Ok(())
 }
 

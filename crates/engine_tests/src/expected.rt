@@ -43,10 +43,16 @@ fn is_open(file: &RuleFile, acts: &[Act], sheet: Sheet) -> bool {
         && solve(file, sheet) == Verdict::Lawful
 }
 
-// The cheapest sheet that is open, and of equals the earliest: the one that lacks the lowest mark on which two differ.
-fn best(file: &RuleFile, acts: &[Act]) -> Option<(Sheet, Cost)> {
+// The wishes make the sheet dearer than the house sheet.
+fn is_dearer(file: &RuleFile, sheet: Sheet) -> bool {
+    cost_of(file, sheet).sums > cost_of(file, file.house).sums
+}
+
+// The cheapest sheet that is open, of those that are not dearer than the house sheet if that is asked; and of equals the
+// earliest: the one that lacks the lowest mark on which two differ.
+fn best(file: &RuleFile, acts: &[Act], is_press: bool) -> Option<(Sheet, Cost)> {
     (0..=first_marks(file.count))
-        .filter(|sheet| is_open(file, acts, *sheet))
+        .filter(|sheet| is_open(file, acts, *sheet) && !(is_press && is_dearer(file, *sheet)))
         .map(|sheet| (sheet, cost_of(file, sheet)))
         .min_by_key(|best| (best.1, best.0.reverse_bits()))
 }
@@ -102,12 +108,14 @@ impl fmt::Display for SheetLine {
     }
 }
 
-// The report that a file must have, and what it shows.
+// The report that a file must have, and what a press must print of it; and what they show.
 #[derive(Drop)]
 pub struct Expected {
     pub lines: String,
+    pub pressed: String,
     pub refused: usize,
     pub has_sheet: bool,
+    pub has_pressed: bool,
     // Several open sheets cost the least.
     pub is_shared: bool,
 }
@@ -131,19 +139,24 @@ fn call_acts(
 
 pub fn expected_of(heap: Global, file: &RuleFile) -> Result<Expected, AllocError> {
     let mut docket = Docket::new(heap, file.count);
-    let (mut lines, refused) = call_acts(heap, file.acts.as_slice(), &mut docket)?;
-    let best = best(file, docket.acts());
-    let line = SheetLine(best);
-    lines.push_str(format!(in heap; "{line}")?.as_str())?;
-    let is_shared = best.is_some_and(|(first, cost)| {
+    let (acts, refused) = call_acts(heap, file.acts.as_slice(), &mut docket)?;
+    let settled = best(file, docket.acts(), false);
+    let line = SheetLine(settled);
+    let lines = format!(in heap; "{acts}{line}")?;
+    let settled_below = best(file, docket.acts(), true);
+    let line = SheetLine(settled_below);
+    let pressed = format!(in heap; "{acts}{line}")?;
+    let is_shared = settled.is_some_and(|(first, cost)| {
         (0..=first_marks(file.count)).any(|sheet| {
             sheet != first && cost_of(file, sheet) == cost && is_open(file, docket.acts(), sheet)
         })
     });
     Ok(Expected {
         lines,
+        pressed,
         refused,
-        has_sheet: best.is_some(),
+        has_sheet: settled.is_some(),
+        has_pressed: settled_below.is_some(),
         is_shared,
     })
 }

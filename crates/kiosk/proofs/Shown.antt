@@ -1,9 +1,9 @@
 -- What is made is the report on all that there is, and what is written is its front.
-use Rattle.std.proofs.Common.{◌≡◌, ℕ, ◌+◌, ◌-◌, ◌≤◌, List, ◌++◌, length, take, drop, Option, None, Some, IfSome, sym, subst, ap, ◌∙◌, arith}
+use Rattle.std.proofs.Common.{◌≡◌, ℕ, ◌+◌, ◌-◌, List, ◌++◌, length, take, drop, Option, None, Some, IfSome, sym, subst, ap, ◌∙◌}
 use Rattle.std.proofs.lemmas.List.{take_rest}
 use Rattle.std.specs.Io.KnownBytes.{Keeps, Appends}
 use Rattle.std.proofs.KnownBytes.{Appends-trans, Appends-kept}
-use lib.Seq.{take-add, take-append_seam}
+use lib.Seq.{take-add}
 use Rattle.rulefile.specs.Format.{decode}
 use Rattle.report.specs.Reports.{IsReport, ReportThatFits, Report}
 
@@ -17,10 +17,6 @@ same_report bytes others lines e r = record {
 pub whole : (known : Option (List ℕ)) (read lines : List ℕ) → Report read lines → IfSome known (λ bytes. decode read ≡ decode bytes) → IfSome known (λ bytes. Report bytes lines)
 whole None read lines report means = tt
 whole (Some all) read lines report means = same_report read all lines means report
-
--- the lines stand at the front of the buffer
-pub front : (lines rest after : List ℕ) (n : ℕ) → n ≡ length lines → after ≡ lines ++ rest → take n after ≡ lines
-front lines rest after n many e = ap (take n) e ∙ ap (λ k. take k (lines ++ rest)) many ∙ take-append_seam lines rest
 
 -- n bytes more were written behind the first w
 pub written_more : (old mid new : Option (List ℕ)) (bytes : List ℕ) (w n m : ℕ) → m ≡ w + n → Appends old mid (take w bytes)

@@ -55,16 +55,20 @@ pub record Report (bytes lines : List ℕ) : Type 0 where
   -- there is one report on a file
   pub only : (other : List ℕ) → IsReport (decode bytes) other → other ≡ lines
 
--- the report stands at the front of the buffer, and the bytes after it are as they were
-pub record Written (bytes before : List ℕ) (n : ℕ) (after : List ℕ) : Type 0 where
+-- lines of which this is promised stand at the front of the buffer, and the bytes after them are as they were
+pub record Written (Promised : List ℕ → Type 0) (before : List ℕ) (n : ℕ) (after : List ℕ) : Type 0 where
   pub room : least_buffer ≤ length before
   pub lines : List ℕ
-  pub report : Report bytes lines
+  pub promised : Promised lines
   pub many : n ≡ length lines
   pub buffer : after ≡ lines ++ drop n before
 
--- what the call answers, and what it leaves in the buffer
+-- what a call that writes such lines answers, and what it leaves in the buffer
+abbrev pub WritesLines : (List ℕ → Type 0) → List ℕ → Result ℕ ReportError → List ℕ → Type 0
+WritesLines Promised before (Ok n) after = Written Promised before n after
+WritesLines Promised before (Err (Refused BufferSmall)) after = (length before < least_buffer) × (after ≡ before)
+WritesLines Promised before (Err Memory) after = (least_buffer ≤ length before) × (after ≡ before)
+
+-- the same of the report on the bytes
 abbrev pub Reported : List ℕ → List ℕ → Result ℕ ReportError → List ℕ → Type 0
-Reported bytes before (Ok n) after = Written bytes before n after
-Reported bytes before (Err (Refused BufferSmall)) after = (length before < least_buffer) × (after ≡ before)
-Reported bytes before (Err Memory) after = (least_buffer ≤ length before) × (after ≡ before)
+Reported bytes = WritesLines (Report bytes)

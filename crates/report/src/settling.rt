@@ -1,5 +1,6 @@
 // The order of a report: over both book and list, by levels then distance, after the acts of the file.
 ghost use Rattle.std.specs.Prelude.{◌≡◌, IfOk, Ok};
+ghost use Rattle.std.specs.Rc.{rc_value};
 ghost use Rattle.rulefile.specs.Answers.{file_of};
 ghost use Rattle.report.specs.Lines.{call_of};
 ghost use Rattle.report.specs.Logs.{calls_for, log_text, IsOrderText};
@@ -29,13 +30,35 @@ fn to_call(act: Act) -> Call
 }
 
 // The acts, and then a search to its end.
-fn calls_after(heap: Global, acts: &[Act]) -> Result<Vec<Call>, AllocError>
+pub(crate) fn calls_after(heap: Global, acts: &[Act]) -> Result<Vec<Call>, AllocError>
     ensures { IfOk result (λ calls. calls.items ≡ calls_for acts.now) }
 {
     acts.iter()
         .map(|act| to_call(*act))
         .chain([Call::Seek, Call::Settle])
         .collect(heap)
+}
+
+// Both book and list of the file.
+pub(crate) fn judge_of_file(file: &Rc<RuleFile>) -> Result<Both<Book, PrinterList>, AllocError>
+    ensures book { IfOk result (λ judge. file_of (rc_value judge.first.file) ≡ file_of (rc_value file.now)) }
+    ensures list { IfOk result (λ judge. file_of (rc_value judge.second.file) ≡ file_of (rc_value file.now)) }
+{
+    Ok(Both {
+        first: Book::new(file.clone()?),
+        second: PrinterList::new(file.clone()?),
+    })
+}
+
+// Levels, then distance, of the file.
+pub(crate) fn scale_of_file(file: &Rc<RuleFile>) -> Result<FirstThen<Levels, Distance>, AllocError>
+    ensures levels { IfOk result (λ scale. file_of (rc_value scale.first.file) ≡ file_of (rc_value file.now)) }
+    ensures house { IfOk result (λ scale. scale.then.house ≡ (file_of (rc_value file.now)).house) }
+{
+    Ok(FirstThen {
+        first: Levels::new(file.clone()?),
+        then: Distance::new(file.house),
+    })
 }
 
 // The log of the order over any judge that settles after the acts.
@@ -57,15 +80,8 @@ fn order_log<J: Judge + Drop>(
 pub(crate) fn settled_log(heap: Global, file: RuleFile) -> Result<Vec<Event<Cost>>, AllocError>
     ensures { IfOk result (λ log. ReportThatFits (Ok (file_of file)) (log_text log.items)) }
 {
-    let house = file.house;
     let shared = Rc::new(heap, file)?;
-    let judge = Both {
-        first: Book::new(shared.clone()?),
-        second: PrinterList::new(shared.clone()?),
-    };
-    let scale = FirstThen {
-        first: Levels::new(shared.clone()?),
-        then: Distance::new(house),
-    };
+    let judge = judge_of_file(&shared)?;
+    let scale = scale_of_file(&shared)?;
     order_log(heap, judge, scale, shared.acts.as_slice())
 }

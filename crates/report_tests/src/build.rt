@@ -1,7 +1,9 @@
 // Files, and what is expected of their reports.
-use report::{LEAST_BUFFER, report};
+use report::{LEAST_BUFFER, press, report};
+use rulefile::read;
 use std::alloc::{AllocError, Global};
 use std::process::Abort;
+use std::rc::Rc;
 use std::test::Fail;
 
 // The example of docs/FORMAT.md: head, rule, wish, pin and bar.
@@ -59,6 +61,17 @@ pub fn check_report(rt: &(impl Abort + AllocGlobal), file: &[u8], lines: &str) -
     let mut buffer = vec![in rt.alloc(); 0; LEAST_BUFFER]?;
     let length = report(rt.alloc(), file, &mut buffer)?;
     assert_eq!(rt; length, lines.len());
+    buffer.truncate(length);
+    assert_eq!(rt; buffer.as_slice(), lines.as_bytes());
+    Ok(())
+}
+
+// The press on the file has these lines.
+pub fn check_press(rt: &(impl Abort + AllocGlobal), file: &[u8], lines: &str) -> Result<(), Fail> {
+    let heap = rt.alloc();
+    let file = Rc::new(heap, read(heap, file)?)?;
+    let mut buffer = vec![in heap; 0; LEAST_BUFFER]?;
+    let length = press(heap, &file, &mut buffer)?;
     buffer.truncate(length);
     assert_eq!(rt; buffer.as_slice(), lines.as_bytes());
     Ok(())

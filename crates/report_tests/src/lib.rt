@@ -1,4 +1,4 @@
-// Tests of the report: its lines, its length, and what it does with the buffer; of verdicts, judges and scales from the bytes
+// Tests of the report and of a press: their lines, their length, and what they do with the buffer; of verdicts, judges and scales from the bytes
 // of a file; and of what errors and costs print.
 #![tactic(auto)]
 
@@ -12,6 +12,8 @@ mod build;
 mod from_bytes;
 #[cfg(test)]
 mod lines;
+#[cfg(test)]
+mod presses;
 #[cfg(test)]
 mod verdicts;
 #[cfg(test)]

@@ -2,6 +2,7 @@
 #![tactic(auto)]
 
 mod both;
+mod ceiling;
 mod first_then;
 mod judge;
 mod literal_sets;
@@ -11,6 +12,7 @@ mod part;
 mod scale;
 
 pub use both::Both;
+pub use ceiling::Ceiling;
 pub use first_then::FirstThen;
 pub use judge::Judge;
 pub use literal_sets::LiteralSet;

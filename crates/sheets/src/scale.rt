@@ -28,3 +28,24 @@ pub trait Scale {
     // It keeps the laws of a scale.
     ghost keeps_laws: { (s : Self) → ScaleLaws (scaling s) };
 }
+
+// A scale that is lent is a scale too, so that an order and a judge can share one.
+impl<S: Scale> Scale for &S {
+    type Cost = S::Cost;
+
+    ghost scaling = { λ s. S.Scale.scaling s.now };
+
+    ghost keeps_laws = { λ s. S.Scale.keeps_laws s.now };
+
+    fn floor(&self, part: PartSheet) -> S::Cost {
+        (**self).floor(part)
+    }
+
+    fn below(&self, a: S::Cost, b: S::Cost) -> bool {
+        (**self).below(a, b)
+    }
+
+    fn same(&self, a: S::Cost, b: S::Cost) -> bool {
+        (**self).same(a, b)
+    }
+}

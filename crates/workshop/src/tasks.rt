@@ -1,11 +1,13 @@
 // The tasks, each in a file of its own. A new one has a case, and a line in each function and in `help`.
 pub mod help;
 pub mod list;
+pub mod press;
 pub mod verdict;
 
 use anyhow::bail;
 use help::Help;
 use list::List;
+use press::Press;
 use std::alloc::Global;
 use verdict::Verdict;
 
@@ -14,6 +16,7 @@ use verdict::Verdict;
 pub enum Task {
     Help(Help),
     List(List),
+    Press(Press),
     Verdict(Verdict),
 }
 
@@ -26,6 +29,7 @@ impl Task {
         match name.as_str() {
             "help" => Ok(Task::Help(Help::of(rest)?)),
             "list" => Ok(Task::List(List::of(heap, rest)?)),
+            "press" => Ok(Task::Press(Press::of(heap, rest)?)),
             "verdict" => Ok(Task::Verdict(Verdict::of(heap, rest)?)),
             _ => bail!("there is no task {name:?}"),
         }
@@ -36,6 +40,7 @@ impl Task {
         match self {
             Task::Help(help) => help.run(rt),
             Task::List(list) => list.run(rt),
+            Task::Press(press) => press.run(rt),
             Task::Verdict(verdict) => verdict.run(rt),
         }
     }

@@ -38,3 +38,12 @@ impl Words {
         Ok(Words { path, others })
     }
 }
+
+// The path of the rule file, for a task that takes no other words. It fails where one stands there too.
+pub fn path_alone(heap: Global, task: &str, words: &[String]) -> anyhow::Result<Option<String>> {
+    let Words { path, others } = Words::of(heap, words)?;
+    if let Some(word) = others.first() {
+        bail!("{task} takes no words: {word:?}");
+    }
+    Ok(path)
+}

@@ -1,5 +1,5 @@
 // The task `help`: what tasks there are.
-use crate::tasks::{list, verdict};
+use crate::tasks::{list, press, verdict};
 use anyhow::bail;
 use std::fmt;
 
@@ -30,7 +30,7 @@ pub struct HelpText;
 impl fmt::Display for HelpText {
     fn fmt<W: fmt::Write>(&self, f: &mut fmt::Formatter<W>) -> fmt::Result {
         f.write_str("workshop TASK WORD..\n\n")?;
-        for line in [list::HELP, verdict::HELP, HELP] {
+        for line in [list::HELP, verdict::HELP, press::HELP, HELP] {
             writeln!(f, "  {line}")?;
         }
         f.write_str(

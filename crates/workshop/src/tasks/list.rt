@@ -2,8 +2,7 @@
 use crate::facts::{FactsText, SheetFacts};
 use crate::input::read_file;
 use crate::text::FileText;
-use crate::words::Words;
-use anyhow::bail;
+use crate::words::path_alone;
 use rulefile::RuleFile;
 use std::alloc::{AllocError, Global};
 use std::rc::Rc;
@@ -20,10 +19,7 @@ pub struct List {
 
 impl List {
     pub fn of(heap: Global, words: &[String]) -> anyhow::Result<List> {
-        let Words { path, others } = Words::of(heap, words)?;
-        if let Some(word) = others.first() {
-            bail!("list takes no words: {word:?}");
-        }
+        let path = path_alone(heap, "list", words)?;
         Ok(List { path })
     }
 
@@ -37,7 +33,7 @@ impl List {
 }
 
 // The records of the file, and what is said of its house sheet.
-pub fn lines_of(heap: Global, file: &Rc<RuleFile>) -> Result<String, AllocError> {
+fn lines_of(heap: Global, file: &Rc<RuleFile>) -> Result<String, AllocError> {
     let text = FileText { file };
     let house = FactsText {
         file,

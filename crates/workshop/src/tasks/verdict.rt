@@ -40,7 +40,7 @@ impl Verdict {
 }
 
 // What is said of the sheet of these marks, or that it is refused.
-pub fn lines_of(heap: Global, file: &Rc<RuleFile>, marks: &[Mark]) -> Result<String, AllocError> {
+fn lines_of(heap: Global, file: &Rc<RuleFile>, marks: &[Mark]) -> Result<String, AllocError> {
     match sheet_of(marks, file.count) {
         Ok(sheet) => {
             let text = FactsText {

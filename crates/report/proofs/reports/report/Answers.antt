@@ -1,4 +1,4 @@
-use Rattle.std.proofs.Common.{◌≡◌, ℕ, ◌≤◌, List, ◌++◌, length, drop, Ok, Err, Result, sym, refl, ap, ◌∙◌, subst, arith, rules}
+use Rattle.std.proofs.Common.{◌≡◌, ℕ, ◌≤◌, List, length, Ok, Err, Result, sym, refl, ap, subst, arith, rules}
 use Rattle.rulefile.specs.declared.refusals.BadFile.{BadFile}
 use Rattle.rulefile.specs.Answers.{file_of}
 use Rattle.rulefile.specs.Model.{FileModel}
@@ -6,27 +6,23 @@ use Rattle.rulefile.specs.Format.{decode}
 use Rattle.report.specs.declared.writing.Writer.{Writer}
 use Rattle.report.specs.Lines.{bad_file_line}
 use Rattle.report.specs.Logs.{log_text}
-use Rattle.report.specs.Reports.{ReportThatFits, Written}
+use Rattle.report.specs.Reports.{ReportThatFits, Report, Written}
 use Rattle.report.specs.Writing.{HasRoom, Writes}
+use Rattle.report.proofs.Buffers.{lines_written}
 use Rattle.report.proofs.Lengths.{bad_file_short}
 use Rattle.report.proofs.Only.{lines_one}
-use Rattle.report.proofs.Pieces.{writes_front, writes_like}
+use Rattle.report.proofs.Pieces.{writes_like}
 use Rattle.report.proofs.reports.report.Goals as goal
 use Rattle.report.proofs.reports.report.Goals.{in-Ok+in_ok-log-in-Ok, in-Err-Refused}
 
 -- the lines of what the bytes mean stand at the front of the buffer
 report_written : (bytes before lines after : List ℕ) (n : ℕ) (file : Result FileModel BadFile) (w v : Writer) → w.len ≡ 0 → w.out.now ≡ before → 4096 ≤ length before
-    → decode bytes ≡ file → ReportThatFits file lines → Writes w lines v → n ≡ v.len → after ≡ v.out.now → Written bytes before n after
+    → decode bytes ≡ file → ReportThatFits file lines → Writes w lines v → n ≡ v.len → after ≡ v.out.now → Written (Report bytes) before n after
 report_written bytes before lines after n file w v none same room means fitting p len end =
     let f = subst (λ (x : Result FileModel BadFile). ReportThatFits x lines) (sym means) fitting in
-    let many : length lines ≡ n = omega (arith, p.len) in
-    record {
-      room = room;
-      lines = lines;
-      report = record { fitting = f; only = λ other o. lines_one (decode bytes) other lines o f.meaning };
-      many = sym many;
-      buffer = end ∙ writes_front none same p ∙ ap (λ (k : ℕ). lines ++ drop k before) many;
-    }
+    lines_written (Report bytes) before lines after n w v none same room
+    (record { fitting = f; only = λ other o. lines_one (decode bytes) other lines o f.meaning })
+    p len end
 
 pub returns : goal.returns
 returns c =

@@ -14,4 +14,4 @@ returns g c =
     let enough : length calls ≤ room_of log =
     let many = ap length c.as_slice.ensures.value in
     omega (arith, made_calls.ok.0, c.len.ensures, made.len, made.capacity) in
-    order_told _ _ (room_of log) c.args.acts.now calls (vec_items log) (vec_items c.conduct.new.log) c.conduct.ensures.log made.items called enough
+    order_told (room_of log) c.args.acts.now calls (vec_items log) (vec_items c.conduct.new.log) made.items called enough _ _ c.conduct.ensures.log

@@ -18,11 +18,14 @@ pub returns : goal.returns
 returns c =
     let file = c.args.file in
     let held = c.in_ok-shared.ensures.ok in
-    let book : file_of (rc_value c.new-2.result.file) ≡ file_of file = cc (c.in_ok-clone.ensures.cases, held) in
-    let list : file_of (rc_value c.new-3.result.file) ≡ file_of file = cc (c.in_ok-clone-2.ensures.cases, held) in
-    let levels : file_of (rc_value c.new-4.result.file) ≡ file_of file = cc (c.in_ok-clone-3.ensures.cases, held) in
+    let judge = c.in_ok-judge.judge in
+    let scale = c.in_ok-scale.scale in
+    let book : file_of (rc_value judge.first.file) ≡ file_of file = cc (c.in_ok-judge.ensures.book, held) in
+    let list : file_of (rc_value judge.second.file) ≡ file_of file = cc (c.in_ok-judge.ensures.list, held) in
+    let levels : file_of (rc_value scale.first.file) ≡ file_of file = cc (c.in_ok-scale.ensures.levels, held) in
+    let house : scale.then.house ≡ (file_of file).house = cc (c.in_ok-scale.ensures.house, held) in
     let acts : c.as_slice.result.now ≡ (file_of file).acts = cc (c.as_slice.ensures.value, c.deref.ensures, held) in
     if_ok _ _
     (λ log told. fitting file (log_text (vec_items log))
-    (made_told (file_of file) (file_of (rc_value c.new-2.result.file)) (file_of (rc_value c.new-3.result.file)) (file_of (rc_value c.new-4.result.file)) c.new-5.result.house c.as_slice.result.now (log_text (vec_items log)) book list levels c.new-5.ensures acts told))
+    (made_told (file_of file) (file_of (rc_value judge.first.file)) (file_of (rc_value judge.second.file)) (file_of (rc_value scale.first.file)) scale.then.house c.as_slice.result.now (log_text (vec_items log)) book list levels house acts told))
     c.order_log.result c.order_log.ensures
