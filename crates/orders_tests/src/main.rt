@@ -13,11 +13,11 @@ mod runs;
 mod script;
 mod table;
 mod tally;
-#[cfg(test)]
-mod tests;
+mod wrong_logs;
 
 use limits::{run_limits, run_room};
 use runs::{run_directly, run_many};
+use wrong_logs::run_wrong_logs;
 
 // Where the generator begins.
 const SEED: u64 = 5;
@@ -27,7 +27,8 @@ fn run(rt: &HostRuntime) -> anyhow::Result<()> {
     tally.print_answers(rt)?;
     run_limits(rt)?;
     run_room(rt)?;
-    run_directly(rt, SEED)
+    run_directly(rt, SEED)?;
+    run_wrong_logs(rt)
 }
 
 fn main(rt: HostRuntime) -> anyhow::Result<()> {

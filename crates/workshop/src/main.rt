@@ -7,8 +7,6 @@ mod faults;
 mod input;
 mod marks;
 mod tasks;
-#[cfg(test)]
-mod tests;
 mod text;
 mod walk;
 mod words;
