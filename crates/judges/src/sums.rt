@@ -13,16 +13,10 @@ fn held_weight(elements: &[Element], by: Interpretation) -> u32
     requires { length elements.now ≤ most_elements }
     ensures { result ≡ weigh (held by) elements.now }
 {
-    // No `filter`: which elements are held is no branch to guess.
+    // No `filter`, and no `if`: which elements are held is no branch to guess.
     elements
         .iter()
-        .map(|element| {
-            if element.literal.is_held(by) {
-                u32::from(element.weight)
-            } else {
-                0
-            }
-        })
+        .map(|element| u32::from(element.weight) * u32::from(element.literal.is_held(by)))
         .sum()
 }
 

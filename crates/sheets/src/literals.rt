@@ -38,11 +38,9 @@ impl Literal {
     pub fn is_held(self, by: Interpretation) -> bool
         ensures { result ≡ held by self }
     {
-        if self.negated {
-            !has_mark(by.negated, self.mark)
-        } else {
-            has_mark(by.plain, self.mark)
-        }
+        // One mark is looked up in either case, so that no branch is to be guessed.
+        let sheet = if self.negated { by.negated } else { by.plain };
+        has_mark(sheet, self.mark) != self.negated
     }
 }
 

@@ -11,11 +11,13 @@ pub type Sheet = u64;
 // How many marks there are.
 pub const WIDTH: u8 = 64;
 
-// The sheet has the mark. No sheet has a mark from `WIDTH` upward.
+// The sheet has the mark. No sheet has a mark from `WIDTH` upward. Both tests are made always, so that a processor has no
+// branch to guess where many marks are looked up.
 pub fn has_mark(sheet: Sheet, mark: Mark) -> bool
     ensures { result ≡ has sheet mark }
 {
-    mark < WIDTH && (sheet >> mark) % 2 == 1
+    let bit = (sheet >> (mark % WIDTH)) % 2;
+    (mark < WIDTH) & (bit == 1)
 }
 
 // The sheet has only marks below the count.

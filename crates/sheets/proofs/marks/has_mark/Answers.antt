@@ -1,15 +1,19 @@
-use Rattle.std.proofs.Common.{◌^◌, ◌<◌, ◌≤◌, sym, refl, ◌∙◌, arith}
-use Rattle.std.proofs.lemmas.Bool.{le-ltb}
+use Rattle.std.proofs.Common.{◌≡◌, ℕ, ◌/◌, ◌%◌, ◌^◌, ◌<◌, ◌≤◌, ◌&&◌, ◌==◌, nat_lt, sym, ap₂, ◌∙◌, ⊎_elim, arith}
+use Rattle.std.proofs.lemmas.Bool.{le-ltb, lt-ltb, cases_lt, and_left}
 use Rattle.sheets.specs.Sheets.{width, has}
 use Rattle.sheets.specs.laws.Bits.{has_high}
 use Rattle.sheets.proofs.marks.has_mark.Goals as goal
 
-pub returns-then-mark-lt-WIDTH : goal.returns-then-mark-lt-WIDTH
+-- of a mark that there is, the place is the mark itself
+there : (z m : ℕ) → m < width → (nat_lt m width && (z / 2 ^ (m % width) % 2 == 1)) ≡ has z m
 unfolding has
-returns-then-mark-lt-WIDTH c = refl
+there z m lt = ap₂ (λ b (k : ℕ). b && (z / 2 ^ k % 2 == 1)) (lt-ltb m width lt) (omega arith)
 
-pub returns-else-mark-lt-WIDTH : goal.returns-else-mark-lt-WIDTH
-returns-else-mark-lt-WIDTH c =
+-- and no sheet has another
+beyond : (z m : ℕ) → z < 2 ^ width → width ≤ m → (nat_lt m width && (z / 2 ^ (m % width) % 2 == 1)) ≡ has z m
+beyond z m word from = and_left (nat_lt m width) (z / 2 ^ (m % width) % 2 == 1) (le-ltb m width from) ∙ sym (has_high width z m word from)
+
+pub returns : goal.returns
+returns c =
     let word : c.args.sheet < 2 ^ width = omega arith in
-    let from : width ≤ c.args.mark = omega arith in
-    le-ltb c.args.mark width from ∙ sym (has_high width c.args.sheet c.args.mark word from)
+    ⊎_elim (there c.args.sheet c.args.mark) (beyond c.args.sheet c.args.mark word) (cases_lt c.args.mark width)
