@@ -1,7 +1,7 @@
 /* The same search as the engine's, step by step, in plain C.
 
    A step asks whether the place is dead, and whether its floor is below the cost of the sheet that is held. Each time every
-   rule, clause, act and wish is tested, by bit masks; nothing is kept from one step to the next. The lines of the report go
+   rule, clause, act and weak constraint is tested, by bit masks; nothing is kept from one step to the next. The lines of the report go
    to standard output, and the steps and the seconds of the search to standard error. The file must be a good one. */
 #include <stdint.h>
 #include <stdio.h>
@@ -26,7 +26,9 @@ typedef struct {
 } constraint;
 
 typedef struct { constraint head, body[MOST_BODY]; int count; } rule;
-typedef struct { literals all; int level, weight; } wish;
+typedef struct { literals all; int level, weight, tag; } wish;
+/* Costs once where its first member holds, or one of the others, which stand from `begin` to before `end`. */
+typedef struct { literals first; int level, weight, begin, end; } weak;
 typedef struct { int code; sheet marks; } act;
 typedef struct { int32_t levels[LEVELS]; int distance; } cost;
 
@@ -37,8 +39,10 @@ static sheet house;
 static rule rules[MOST];
 static literals clauses[MOST];
 static wish wishes[MOST];
+static literals others[MOST];
+static weak weaks[MOST];
 static act docket[MOST_ACTS];
-static int rule_count, clause_count, wish_count, act_count;
+static int rule_count, clause_count, wish_count, other_count, weak_count, act_count;
 
 static sheet number(int size) {
     sheet value = 0;
@@ -86,11 +90,36 @@ static void read_rule(void) {
     for (int i = 0; i < r->count; i++) read_constraint(&r->body[i]);
 }
 
-static void read_wish(void) {
+static void read_wish(int tagged) {
     wish *w = &wishes[wish_count++];
     w->level = (int)number(1);
+    w->tag = tagged ? (int)number(2) : -1;
     w->weight = (int16_t)number(2);
     w->all = read_literals();
+}
+
+static int is_one_group(const wish *a, const wish *b) {
+    return a->tag >= 0 && a->tag == b->tag && a->level == b->level && a->weight == b->weight;
+}
+
+static int has_earlier(int place) {
+    for (int i = 0; i < place; i++)
+        if (is_one_group(&wishes[i], &wishes[place])) return 1;
+    return 0;
+}
+
+/* Adds the wish with the later ones of its group. */
+static void add_weak(int place) {
+    const wish *first = &wishes[place];
+    int begin = other_count;
+    for (int i = place + 1; i < wish_count; i++)
+        if (is_one_group(first, &wishes[i])) others[other_count++] = wishes[i].all;
+    weaks[weak_count++] = (weak){first->all, first->level, first->weight, begin, other_count};
+}
+
+static void add_weaks(void) {
+    for (int i = 0; i < wish_count; i++)
+        if (!has_earlier(i)) add_weak(i);
 }
 
 /* Why an act is refused, or 0. */
@@ -124,7 +153,7 @@ static void read_record(void) {
         house = number(8);
     } else if (kind == 2) read_rule();
     else if (kind == 3) clauses[clause_count++] = read_literals();
-    else if (kind == 4) read_wish();
+    else if (kind == 4 || kind == 7) read_wish(kind == 7);
     else read_act();
     at = end;
 }
@@ -218,13 +247,28 @@ static int is_dead(sheet present, sheet absent) {
     return present & ~first_marks(count) || !clauses_hold(present, absent) || breaks_act(present, absent);
 }
 
+/* All literals hold where the marks of the one sheet are there, and those of the other are missing. */
+static int all_hold(const literals *all, sheet there, sheet missing) {
+    return !(all->plain & ~there) && !(all->nots & ~missing);
+}
+
+static int another_holds(const weak *w, sheet there, sheet missing) {
+    for (int i = w->begin; i < w->end; i++)
+        if (all_hold(&others[i], there, missing)) return 1;
+    return 0;
+}
+
+static inline int one_holds(const weak *w, sheet there, sheet missing) {
+    return all_hold(&w->first, there, missing) || (w->begin < w->end && another_holds(w, there, missing));
+}
+
 static cost floor_of(sheet present, sheet absent) {
     cost c = {{0}, 0};
-    for (int i = 0; i < wish_count; i++) {
-        const wish *w = &wishes[i];
+    for (int i = 0; i < weak_count; i++) {
+        const weak *w = &weaks[i];
         int32_t *level = &c.levels[LEVELS - w->level];
-        if (!(w->all.plain & ~present) && !(w->all.nots & ~absent)) *level += w->weight;
-        else if (w->weight < 0 && !(w->all.plain & absent) && !(w->all.nots & present)) *level += w->weight;
+        if (one_holds(w, present, absent)) *level += w->weight;
+        else if (w->weight < 0 && one_holds(w, ~absent, ~present)) *level += w->weight;
     }
     c.distance = __builtin_popcountll((present | absent) & (present ^ house));
     return c;
@@ -280,6 +324,7 @@ static void print_sheet(void) {
 int main(void) {
     int length = (int)fread(file, 1, sizeof file, stdin);
     while (at < length) read_record();
+    add_weaks();
     struct timespec begin, end;
     clock_gettime(CLOCK_MONOTONIC, &begin);
     long steps = 0;

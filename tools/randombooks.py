@@ -3,7 +3,7 @@
 import random
 
 from rulefiles import BAR, NO_HIGH, PIN, STRIKE, UNDO
-from rulefiles import act, clause, constraint, head, rule, wish
+from rulefiles import act, clause, constraint, head, rule, tagged_wish, wish
 
 MOST_MARKS = 8
 NEVER = constraint(1, NO_HIGH, [])
@@ -99,6 +99,27 @@ def random_wish(rng, count):
     return wish(rng.choice([1, 2, 3, 5, 8, rng.randint(1, 8)]), weight, literals)
 
 
+def tagged_literals(rng, count):
+    """Literals of a wish; one wish in eight has a mark and its "not"."""
+    if rng.random() < 0.125:
+        mark = rng.randrange(count)
+        return [mark, mark + 128]
+    return [random_literal(rng, count, 0.3) for _ in range(rng.choice([1, 1, 2, 3]))]
+
+
+def random_tagged_wishes(rng, count):
+    """Their levels, tags and weights are drawn from few, so that many share all three, and
+    others have the tag at another level or with another weight."""
+    levels = rng.sample(range(1, 9), rng.choice([1, 2]))
+    tags = rng.choices([0, 1, 256, 0x1234, 0x3412, 32_768, 65_535], k=rng.choice([1, 2, 3]))
+    weights = [rng.randint(-3, 3), rng.randint(1, 4), -rng.randint(1, 4), rng.choice([-10_000, 10_000])]
+    weights = rng.sample(weights, rng.choice([1, 2, 3]))
+    return [
+        tagged_wish(rng.choice(levels), rng.choice(tags), rng.choice(weights), tagged_literals(rng, count))
+        for _ in range(rng.choice([0, 2, 4, 8, 12, 20]))
+    ]
+
+
 def random_act(rng, count):
     """One act in ten or so names a mark that is not below the count."""
     code = rng.choice([PIN, BAR, STRIKE, STRIKE, STRIKE, STRIKE, UNDO])
@@ -126,6 +147,7 @@ def random_file(start, number):
     count = rng.randint(1, MOST_MARKS)
     clauses = [random_clause(rng, count) for _ in range(rng.choice([0, 0, 0, 1, 2]))]
     wishes = [random_wish(rng, count) for _ in range(rng.choice([0, 0, 1, 3, 5, 8]))]
+    wishes += random_tagged_wishes(rng, count)
     # Now and then there are more acts than can stand.
     most = rng.choice([0, 0, 0, 0, 3, 3, 6, 6, 6, 120])
     acts = [random_act(rng, count) for _ in range(rng.randint(0, most))]

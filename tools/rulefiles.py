@@ -16,12 +16,15 @@ MOST_BYTES = 32_768
 MOST_ACTS = 32
 NO_HIGH = 0xFFFF_FFFF
 HEAD, RULE, CLAUSE, WISH, ACT = range(1, 6)
+TAGGED_WISH = 7
+KINDS = [HEAD, RULE, CLAUSE, WISH, ACT, TAGGED_WISH]
 PIN, BAR, STRIKE, UNDO = range(1, 5)
 
 Book = collections.namedtuple("Book", "count house rules clauses wishes acts")
 Rule = collections.namedtuple("Rule", "head body")
 Constraint = collections.namedtuple("Constraint", "low high elements")
-Wish = collections.namedtuple("Wish", "level weight literals")
+# A wish of kind 4 has None as its tag.
+Wish = collections.namedtuple("Wish", "level tag weight literals")
 
 
 class Refused(Exception):
@@ -78,6 +81,11 @@ def clause(literals):
 def wish(level, weight, literals):
     packed = struct.pack("<BhB", level, weight, len(literals))
     return record(WISH, packed + bytes(literals))
+
+
+def tagged_wish(level, tag, weight, literals):
+    packed = struct.pack("<BHhB", level, tag, weight, len(literals))
+    return record(TAGGED_WISH, packed + bytes(literals))
 
 
 def act(code, argument=None):
@@ -138,10 +146,11 @@ def read_rule(body, count):
     return Rule(head_constraint, [read_constraint(body, count) for _ in range(length)])
 
 
-def read_wish(body, count):
+def read_wish(kind, body, count):
     level = read_number(body, "<B", 1, 8)
+    tag = read_number(body, "<H") if kind == TAGGED_WISH else None
     weight = read_number(body, "<h", -10_000, 10_000)
-    return Wish(level, weight, read_literals(body, count, 1, 16))
+    return Wish(level, tag, weight, read_literals(body, count, 1, 16))
 
 
 def read_act(body):
@@ -159,23 +168,29 @@ def read_fields(kind, body, heads):
         return read_rule(body, count)
     if kind == CLAUSE:
         return read_literals(body, count, 0, 32)
-    return read_wish(body, count) if kind == WISH else read_act(body)
+    return read_act(body) if kind == ACT else read_wish(kind, body, count)
+
+
+def counted_as(kind):
+    """The kind whose list has the records of this one: wishes with and without a tag are in one."""
+    return WISH if kind == TAGGED_WISH else kind
 
 
 def read_record(data, offset, records):
-    """Adds the record at the offset to those of its kind, and gives the offset of the next."""
+    """Adds the record at the offset to its list, and gives the offset of the next."""
     left = len(data) - offset
     need(left >= 4, 11)
     (length,) = struct.unpack_from("<I", data, offset)
     need(2 <= length <= 1024, 12)
     need(length <= left - 4, 13)
     (kind,) = struct.unpack_from("<H", data, offset + 4)
-    need(HEAD <= kind <= ACT, 14)
+    need(kind in KINDS, 14)
     need((kind == HEAD) == (offset == 0), 15)
-    need(len(records[kind]) < 256, 16)
+    same = records[counted_as(kind)]
+    need(len(same) < 256, 16)
     end = offset + 4 + length
     body = io.BytesIO(data[offset + 6 : end])
-    records[kind].append(read_fields(kind, body, records[HEAD]))
+    same.append(read_fields(kind, body, records[HEAD]))
     need(not body.read(), 17)
     return end
 

@@ -3,14 +3,19 @@ use crate::books::{Tally, try_book};
 use crate::costs::try_costs;
 use crate::draws::Draw;
 use crate::expected::expected_of;
+use crate::groups::Groups;
 use crate::reports::{press_of, report_of};
 use rulefile::read;
 use std::fmt;
 use std::fmt::Formatter;
+use std::ops::Range;
 use std::rc::Rc;
 
-// How many books are drawn. Each begins the generator with its own number.
+// How many books without tags are drawn, and how many with tags. Each begins the generator with its own number; those with
+// tags go on behind the others.
 const BOOKS: u64 = 300;
+
+const TAGGED_BOOKS: u64 = 200;
 
 // What was found of the books.
 #[derive(Clone, Copy, Default)]
@@ -24,6 +29,7 @@ struct Found {
     reports_differ: u64,
     pressed: u64,
     presses_differ: u64,
+    groups: Groups,
 }
 
 impl fmt::Display for Found {
@@ -38,11 +44,10 @@ impl fmt::Display for Found {
             reports_differ,
             pressed,
             presses_differ,
+            groups,
         } = *self;
-        writeln!(
-            f,
-            "{BOOKS} random books: sheets: {sheets}; costs: {costs_differ} differ"
-        )?;
+        writeln!(f, "{groups}")?;
+        writeln!(f, "sheets: {sheets}; costs: {costs_differ} differ")?;
         writeln!(
             f,
             "reports: {with_sheet} with a sheet, {shared} of them with others of its cost, {acts} acts, {refused} refused, {reports_differ} differ"
@@ -55,9 +60,14 @@ impl fmt::Display for Found {
 }
 
 // Draws the book of the number, and adds what is found of it.
-fn run_book(rt: &HostRuntime, number: u64, found: &mut Found) -> anyhow::Result<()> {
+fn run_book(
+    rt: &HostRuntime,
+    number: u64,
+    has_tags: bool,
+    found: &mut Found,
+) -> anyhow::Result<()> {
     let heap = rt.alloc();
-    let bytes = Draw::new(heap, number).file()?;
+    let bytes = Draw::new(heap, number, has_tags).file()?;
     let file = Rc::new(heap, read(heap, bytes.as_slice())?)?;
     let expected = expected_of(heap, &file)?;
     let is_different = report_of(heap, bytes.as_slice())?.as_slice() != expected.lines.as_bytes();
@@ -73,6 +83,7 @@ fn run_book(rt: &HostRuntime, number: u64, found: &mut Found) -> anyhow::Result<
     found.acts = found.acts.wrapping_add(file.acts.len() as u64);
     found.refused = found.refused.wrapping_add(expected.refused as u64);
     found.reports_differ = found.reports_differ.wrapping_add(u64::from(is_different));
+    found.groups = found.groups.plus(Groups::of(&file));
     found.pressed = found.pressed.wrapping_add(u64::from(expected.has_pressed));
     found.presses_differ = found
         .presses_differ
@@ -80,11 +91,19 @@ fn run_book(rt: &HostRuntime, number: u64, found: &mut Found) -> anyhow::Result<
     Ok(())
 }
 
-pub fn run_chance(rt: &HostRuntime) -> anyhow::Result<()> {
+// The random books of the numbers.
+fn run_books(rt: &HostRuntime, numbers: Range<u64>, has_tags: bool) -> anyhow::Result<Found> {
     let mut found = Found::default();
-    for number in 0..BOOKS {
-        run_book(rt, number, &mut found)?;
+    for number in numbers {
+        run_book(rt, number, has_tags, &mut found)?;
     }
-    println!(rt; "{found}")?;
+    Ok(found)
+}
+
+pub fn run_chance(rt: &HostRuntime) -> anyhow::Result<()> {
+    let found = run_books(rt, 0..BOOKS, false)?;
+    println!(rt; "{BOOKS} random books without tags: {found}")?;
+    let found = run_books(rt, BOOKS..BOOKS + TAGGED_BOOKS, true)?;
+    println!(rt; "{TAGGED_BOOKS} random books with tags: {found}")?;
     Ok(())
 }

@@ -7,19 +7,40 @@ use sheets::{Sheet, WIDTH, first_marks};
 use std::alloc::AllocError;
 use std::rc::Rc;
 
-fn wish_holds(wish: &Wish, sheet: Sheet) -> bool {
+pub fn wish_holds(wish: &Wish, sheet: Sheet) -> bool {
     wish.literals
         .iter()
         .all(|literal| holds(*literal, sheet, sheet))
 }
 
-// What the sheet costs at the level.
+// Both have a tag, and they are equal in level, weight and tag.
+fn are_one_group(wish: &Wish, other: &Wish) -> bool {
+    wish.tag.is_some()
+        && wish.tag == other.tag
+        && wish.level == other.level
+        && wish.weight == other.weight
+}
+
+// Of the wishes before the place, one that holds is in the group of the wish.
+pub fn counts_before(wishes: &[Wish], place: usize, wish: &Wish, sheet: Sheet) -> bool {
+    wishes.iter().take(place).any(|other| are_one_group(other, wish) && wish_holds(other, sheet))
+}
+
+// What the sheet costs at the level: the weights of the wishes that hold, but of those of a group only that of the first.
 pub fn sum_at(file: &RuleFile, level: u8, sheet: Sheet) -> i64 {
-    file.wishes
+    let wishes = file.wishes.as_slice();
+    wishes
         .iter()
-        .filter(|wish| wish.level == level && wish_holds(wish, sheet))
+        .enumerate()
+        .filter(|(place, wish)| {
+            wish.level == level
+                && wish_holds(wish, sheet)
+                && !counts_before(wishes, *place, wish, sheet)
+        })
         // No `sum`, of signed numbers: no proof is found that it stays in its bounds.
-        .fold(0i64, |sum, wish| sum.wrapping_add(i64::from(wish.weight)))
+        .fold(0i64, |sum, (_, wish)| {
+            sum.wrapping_add(i64::from(wish.weight))
+        })
 }
 
 fn same_levels(file: &RuleFile, cost: LevelCost, sheet: Sheet) -> bool {

@@ -27,21 +27,32 @@ fn byte_of(literal: Literal) -> u8 {
     }
 }
 
+// What the wishes of a group have in common.
+#[derive(Clone, Copy)]
+struct Group {
+    level: u8,
+    tag: u16,
+    weight: i16,
+}
+
 // Draws the parts of a file whose marks are below the count.
 #[derive(Drop)]
 pub struct Draw {
     heap: Global,
     random: Pcg32,
     count: u8,
+    // About half of its records are wishes with a tag; else none is.
+    has_tags: bool,
 }
 
 impl Draw {
     // Begins with a count from 1 to 6, more often a large one.
-    pub fn new(heap: Global, seed: u64) -> Draw {
+    pub fn new(heap: Global, seed: u64, has_tags: bool) -> Draw {
         let mut draw = Draw {
             heap,
             random: Pcg32::new(seed, 0),
             count: 1,
+            has_tags,
         };
         let larger = draw.small(6).max(draw.small(6));
         draw.count = larger.saturating_add(1);
@@ -235,6 +246,44 @@ impl Draw {
         add_record(file, Kind::Wish, body.as_slice())
     }
 
+    // There are few levels, tags and weights, so that many wishes share all three. Of two tags the one has the bytes of the
+    // other in the other order.
+    fn group(&mut self) -> Group {
+        let level = if self.below(3) == 0 { TOP_LEVEL } else { 2 };
+        let tag = match self.below(5) {
+            0 => u16::MAX,
+            1 => 0x0201,
+            _ => 0x0102,
+        };
+        let weight = match self.below(6) {
+            0 => -MOST_WEIGHT,
+            1 => 1,
+            2 | 3 => 2,
+            _ => -2,
+        };
+        Group { level, tag, weight }
+    }
+
+    // The literals of a wish with a tag. Of six wishes one has a mark and its "not".
+    fn add_tagged_literals(&mut self, body: &mut Vec<u8>) -> Result<(), AllocError> {
+        if self.below(6) == 0 {
+            let mark = self.mark();
+            body.extend_from_slice(&[2, mark, mark | NOT])
+        } else {
+            let n = self.small(3).wrapping_add(1);
+            self.add_literals(body, n)
+        }
+    }
+
+    fn add_tagged_wish(&mut self, file: &mut Vec<u8>) -> Result<(), AllocError> {
+        let group = self.group();
+        let mut body = vec![in self.heap; group.level]?;
+        body.extend_from_slice(&group.tag.to_le_bytes())?;
+        body.extend_from_slice(&group.weight.to_le_bytes())?;
+        self.add_tagged_literals(&mut body)?;
+        add_record(file, Kind::TaggedWish, body.as_slice())
+    }
+
     // Now and then a mark that is not below the count.
     fn act_mark(&mut self) -> Mark {
         if self.below(10) == 0 {
@@ -268,6 +317,9 @@ impl Draw {
     }
 
     fn add_any(&mut self, file: &mut Vec<u8>) -> Result<(), AllocError> {
+        if self.has_tags && self.below(2) == 0 {
+            return self.add_tagged_wish(file);
+        }
         match self.below(12) {
             0..=4 => self.add_rule(file),
             5 => self.add_clause(file),
@@ -289,7 +341,8 @@ impl Draw {
         if self.below(3) == 0 {
             self.add_positive_loop(&mut file)?;
         }
-        for _ in 0..self.below(16) {
+        let limit = if self.has_tags { 32 } else { 16 };
+        for _ in 0..self.below(limit) {
             self.add_any(&mut file)?;
         }
         if self.below(8) == 0 {

@@ -3,7 +3,7 @@ use crate::costs::try_costs;
 use rulefile::limits::{MOST_OF_KIND, MOST_WEIGHT, TOP_LEVEL};
 use rulefile::{RuleFile, read};
 use scales::Levels;
-use std::alloc::Global;
+use std::alloc::{AllocError, Global};
 use std::fmt;
 use std::fmt::Formatter;
 use std::rc::Rc;
@@ -11,51 +11,121 @@ use std::rc::Rc;
 // A head with count 1 and an empty house sheet.
 const HEAD: [u8; 15] = [11, 0, 0, 0, 1, 0, 1, 0, 0, 0, 0, 0, 0, 0, 0];
 
+// Which tags the wishes of a file have.
+#[derive(Clone, Copy)]
+enum Tags {
+    // None has a tag.
+    Absent,
+    // All have this tag.
+    Same(u16),
+    // Each has a tag of its own, from 0 up.
+    Own,
+}
+
 // So many wishes of the weight at each level from `low` to `high`, if mark 0 is there.
 #[derive(Clone, Copy)]
 struct Wishes {
+    tags: Tags,
     times: usize,
     weight: i16,
     low: u8,
     high: u8,
 }
 
-const EXTREMES: [Wishes; 5] = [
+const EXTREMES: [Wishes; 11] = [
     Wishes {
+        tags: Tags::Absent,
         times: 1,
         weight: MOST_WEIGHT,
         low: 1,
         high: TOP_LEVEL,
     },
     Wishes {
+        tags: Tags::Absent,
         times: 1,
         weight: -MOST_WEIGHT,
         low: 1,
         high: TOP_LEVEL,
     },
     Wishes {
+        tags: Tags::Absent,
         times: 2,
         weight: 7,
         low: 3,
         high: 3,
     },
     Wishes {
+        tags: Tags::Absent,
         times: MOST_OF_KIND,
         weight: MOST_WEIGHT,
         low: TOP_LEVEL,
         high: TOP_LEVEL,
     },
     Wishes {
+        tags: Tags::Absent,
         times: MOST_OF_KIND,
         weight: -MOST_WEIGHT,
         low: 1,
         high: 1,
     },
+    Wishes {
+        tags: Tags::Same(u16::MAX),
+        times: 2,
+        weight: 7,
+        low: 3,
+        high: 4,
+    },
+    Wishes {
+        tags: Tags::Same(0),
+        times: MOST_OF_KIND,
+        weight: MOST_WEIGHT,
+        low: TOP_LEVEL,
+        high: TOP_LEVEL,
+    },
+    Wishes {
+        tags: Tags::Same(0),
+        times: MOST_OF_KIND,
+        weight: -MOST_WEIGHT,
+        low: 1,
+        high: 1,
+    },
+    Wishes {
+        tags: Tags::Own,
+        times: MOST_OF_KIND,
+        weight: MOST_WEIGHT,
+        low: TOP_LEVEL,
+        high: TOP_LEVEL,
+    },
+    Wishes {
+        tags: Tags::Own,
+        times: MOST_OF_KIND,
+        weight: -MOST_WEIGHT,
+        low: 1,
+        high: 1,
+    },
+    Wishes {
+        tags: Tags::Same(258),
+        times: 32,
+        weight: -MOST_WEIGHT,
+        low: 1,
+        high: TOP_LEVEL,
+    },
 ];
+
+impl fmt::Display for Tags {
+    fn fmt<W: fmt::Write>(&self, f: &mut Formatter<W>) -> fmt::Result {
+        match self {
+            Tags::Absent => Ok(()),
+            Tags::Same(tag) => write!(f, " with the tag {tag}"),
+            Tags::Own => f.write_str(" with a tag each"),
+        }
+    }
+}
 
 impl fmt::Display for Wishes {
     fn fmt<W: fmt::Write>(&self, f: &mut Formatter<W>) -> fmt::Result {
         let Wishes {
+            tags,
             times,
             weight,
             low,
@@ -63,24 +133,41 @@ impl fmt::Display for Wishes {
         } = *self;
         write!(
             f,
-            "{times} wishes of weight {weight} at levels {low} to {high}"
+            "{times} wishes{tags} of weight {weight} at levels {low} to {high}"
         )
     }
 }
 
 impl Wishes {
-    // The bytes of one of the wishes.
-    fn record(self, level: u8) -> [u8; 11] {
+    // Adds one of the wishes, which has this place among those of its level.
+    fn add_record(self, file: &mut Vec<u8>, level: u8, place: usize) -> Result<(), AllocError> {
         let [a, b] = self.weight.to_le_bytes();
-        [7, 0, 0, 0, 4, 0, level, a, b, 1, 0]
+        let [c, d] = match self.tags {
+            Tags::Absent => {
+                return file.extend_from_slice(&[7, 0, 0, 0, 4, 0, level, a, b, 1, 0]);
+            }
+            Tags::Same(tag) => tag.to_le_bytes(),
+            Tags::Own => {
+                let [c, d, ..] = place.to_le_bytes();
+                [c, d]
+            }
+        };
+        file.extend_from_slice(&[9, 0, 0, 0, 7, 0, level, c, d, a, b, 1, 0])
+    }
+
+    // Adds the wishes of the level.
+    fn add_level(self, file: &mut Vec<u8>, level: u8) -> Result<(), AllocError> {
+        for place in 0..self.times {
+            self.add_record(file, level, place)?;
+        }
+        Ok(())
     }
 
     // The file of the wishes.
     fn file(self, heap: Global) -> anyhow::Result<RuleFile> {
         let mut bytes = Vec::from_slice(heap, &HEAD)?;
         for level in self.low..=self.high {
-            let wishes = self.record(level).repeat(heap, self.times)?;
-            bytes.extend_from_slice(wishes.as_slice())?;
+            self.add_level(&mut bytes, level)?;
         }
         Ok(read(heap, bytes.as_slice())?)
     }

@@ -12,6 +12,7 @@ mod docket;
 mod draws;
 mod expected;
 mod extremes;
+mod groups;
 mod outcomes;
 mod reports;
 mod solver;

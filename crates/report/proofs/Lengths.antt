@@ -1,10 +1,10 @@
 -- How long the lines of a report can be.
 use Rattle.std.proofs.Common.{ℕ, zero, suc, ◌+◌, ◌*◌, ◌/◌, ◌%◌, ◌<◌, ◌≤◌, Bool, true, false, cond, eqb, List, [], ◌∷◌, ◌++◌, map, length, ℤ, pos, negsuc, neg_ℤ, ◌≤ℤ◌, Some, None, codes, decimal, filter, get_or, Option, arith}
 use lib.Signed.{mag, le_z}
-use Rattle.std.specs.List.{All, range_with_len}
+use Rattle.std.specs.List.{All, AllByRecursion, range_with_len}
 use Rattle.std.specs.Fmt.{signed_decimal, digits, digits_onto, digit_glyph}
 use Rattle.std.proofs.lemmas.Fmt.{length-decimal-le, length_signed_le}
-use Rattle.std.proofs.lemmas.List.{length-append, length-map}
+use Rattle.std.proofs.lemmas.List.{length-append}
 use Rattle.std.proofs.lemmas.List.Elements.{All-nil, All-cons, All-filter}
 use Rattle.std.proofs.lemmas.List.FromFn.{get_or-range_with_len}
 use Rattle.std.proofs.lemmas.List.Sums.{length-filter, count_by-le-length}
@@ -16,11 +16,13 @@ use Rattle.rulefile.specs.declared.refusals.BadFile.{BadFile}
 use Rattle.rulefile.specs.declared.wishes.Wish.{Wish}
 use Rattle.rulefile.specs.declared.files.RuleFile.{RuleFile}
 use Rattle.rulefile.specs.Answers.{file_of}
-use Rattle.rulefile.specs.Model.{wish_of}
+use Rattle.rulefile.specs.Model.{WishModel, wish_of}
+use Rattle.rulefile.specs.WeakConstraints.{WeakModel, weak_constraints_of}
 use Rattle.rulefile.specs.Numbers as file-number
 use Rattle.rulefile.specs.Words.{bad_file_words}
 use Rattle.rulefile.proofs.Fits.{fit_parts}
-use Rattle.scales.specs.Wishes.{wish_cost, sum_at, top, down_from}
+use Rattle.scales.specs.Wishes.{weak_cost, sum_at, level_cost, top, down_from}
+use Rattle.scales.specs.laws.Groups.{weak_few, weak_each}
 use Rattle.sheets.specs.laws.Counting.{marks_most}
 use Rattle.scales.specs.Distances.{differ_at, distance_of}
 use Rattle.orders.specs.declared.acts.Act.{Act as Standing}
@@ -121,20 +123,27 @@ sum_length z k le in_bounds = length_signed_le 10 z (omega (arith, small z k le 
     small (pos n) k le in_bounds = omega (arith, ints, in_bounds.1)
     small (negsuc n) k le in_bounds = omega (arith, ints, in_bounds.0)
 
+-- the weight is in its range
+abbrev InRange : ℤ → Type 0
+InRange w = (neg_ℤ (pos 10000) ≤ℤ w) × (w ≤ℤ pos 10000)
+
+weights_in_range : (wishes : List Wish) → AllByRecursion (λ (w : WishModel). InRange w.weight) (map wish_of wishes)
+weights_in_range [] = tt
+weights_in_range (w ∷ ws) =
+    let t = and_parts (le_z (negsuc 9999) w.weight) (le_z w.weight (pos 10000)) w.weighed in
+    ((grind (arith, ints, t.0), grind (arith, ints, t.1)), weights_in_range ws)
+
 module _ (z n : ℕ) where
-  abbrev sum : List Wish → ℤ
-  sum ws = sum_at (wish_cost z) (map wish_of ws) n
+  part_bounds : (w : ℤ) (b c : Bool) → InRange w → Within 10000 (cond b (cond c w (pos 0)) (pos 0))
+  part_bounds w true true r = r
+  part_bounds w true false r = (omega (arith, ints), omega (arith, ints))
+  part_bounds w false c r = (omega (arith, ints), omega (arith, ints))
 
-  part_bounds : (w : Wish) (b c : Bool) → Within 10000 (cond b (cond c w.weight (pos 0)) (pos 0))
-  part_bounds w true true = let t = and_parts (le_z (negsuc 9999) w.weight) (le_z w.weight (pos 10000)) w.weighed in (grind (arith, ints, t.0), grind (arith, ints, t.1))
-  part_bounds w true false = (omega (arith, ints), omega (arith, ints))
-  part_bounds w false c = (omega (arith, ints), omega (arith, ints))
-
-  sum_bounds : (ws : List Wish) → Within (10000 * length ws) (sum ws)
-  sum_bounds [] = (omega (arith, ints), omega (arith, ints))
-  sum_bounds (w ∷ ws) =
-      let first : Within 10000 (cond (eqb w.level n) (wish_cost z (wish_of w)) (pos 0)) = part_bounds w _ _ in
-      let rest = sum_bounds ws in
+  sum_bounds : (cs : List WeakModel) → AllByRecursion (λ (c : WeakModel). InRange c.weight) cs → Within (10000 * length cs) (sum_at (weak_cost z) cs n)
+  sum_bounds [] h = (omega (arith, ints), omega (arith, ints))
+  sum_bounds (c ∷ cs) h =
+      let first : Within 10000 (cond (eqb c.level n) (weak_cost z c) (pos 0)) = part_bounds c.weight _ _ h.0 in
+      let rest = sum_bounds cs h.1 in
       (omega (arith, ints, first.0, rest.0), omega (arith, ints, first.1, rest.1))
 
 -- ---- the sheet
@@ -154,15 +163,19 @@ sheet_length z distance levels short lt =
     )
 
 module _ (file : RuleFile) where
-  few_wishes : length file.wishes.items ≤ 256
-  few_wishes = omega (arith, (fit_parts _ file.fit).few_wishes, length-map file.wishes.items wish_of)
+  abbrev constraints : List WeakModel
+  constraints = weak_constraints_of (map wish_of file.wishes.items)
+
+  few_constraints : length constraints ≤ 256
+  few_constraints = omega (arith, (fit_parts _ file.fit).few_wishes, weak_few (map wish_of file.wishes.items))
 
   answer_length : (held : Option ℕ) → length (answer_line (file_of file) held) ≤ 306
   unfolding no_sheet_line
   answer_length None = omega arith
   answer_length (Some z) =
-      let sums = sum_at (wish_cost z) (file_of file).wishes in
-      let each : (m : ℕ) → length (signed_decimal (sums m)) ≤ 11 = λ m. sum_length (sums m) (length file.wishes.items) few_wishes (sum_bounds z m file.wishes.items) in
+      let sums = level_cost z (file_of file).wishes in
+      let ranges = weak_each (λ level weight. InRange weight) (map wish_of file.wishes.items) (weights_in_range file.wishes.items) in
+      let each : (m : ℕ) → length (signed_decimal (sums m)) ≤ 11 = λ m. sum_length (sums m) (length constraints) few_constraints (sum_bounds z m constraints ranges) in
       sheet_length z ((distance_of file.house).cost z) (down_from top sums) (length-spaced-le signed_decimal 11 (down_from top sums) (down_from_short top sums each)) (omega (arith, marks_most width (differ_at z file.house)))
 
   pub lines_short : (held : Option ℕ) → length (act_lines file.count [] file.acts.items ++ answer_line (file_of file) held) ≤ 4096

@@ -8,7 +8,7 @@ use Rattle.rulefile.specs.declared.records.Act.{Act}
 use Rattle.rulefile.specs.declared.records.Act.TheVariants.{Pin, Bar, Strike, Undo}
 use Rattle.rulefile.specs.Model.{FileModel}
 use Rattle.rulefile.specs.Words.{bad_file_words}
-use Rattle.scales.specs.Wishes.{wish_cost, sum_at, top, down_from}
+use Rattle.scales.specs.Wishes.{level_cost, top, down_from}
 use Rattle.scales.specs.Distances.{distance_of}
 use Rattle.orders.specs.declared.acts.Act.{Act as Standing}
 use Rattle.orders.specs.declared.acts.Act.TheVariants as act
@@ -77,4 +77,4 @@ no_sheet_line = codes "no sheet" ++ line_end
 -- the line of the sheet z with what the wishes of the file cost at each level, and its distance from the house sheet
 abbrev pub answer_line : FileModel → Option Sheet → List ℕ
 answer_line f None = no_sheet_line
-answer_line f (Some z) = sheet_line z (down_from top (sum_at (wish_cost z) f.wishes)) ((distance_of f.house).cost z)
+answer_line f (Some z) = sheet_line z (down_from top (level_cost z f.wishes)) ((distance_of f.house).cost z)

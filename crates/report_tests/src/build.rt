@@ -41,8 +41,8 @@ pub fn all_marks(heap: Global) -> Result<Vec<u8>, AllocError> {
     Ok(file)
 }
 
-// As many records of each kind as there can be: rules that always hold, clauses that the empty sheet keeps, wishes for it,
-// and undos that are refused.
+// As many records of each list as there can be: rules that always hold, clauses that the empty sheet keeps, wishes for it, of
+// which half have a tag and are one group, and undos that are refused.
 pub fn fullest_file(heap: Global) -> Result<Vec<u8>, AllocError> {
     let mut file = b"\x0b\0\0\0\x01\0\x01\0\0\0\0\0\0\0\0".to_vec(heap)?;
     let rule = b"\x0f\0\0\0\x02\0\0\0\0\0\0\xff\xff\xff\xff\x01\0\x01\0";
@@ -50,7 +50,9 @@ pub fn fullest_file(heap: Global) -> Result<Vec<u8>, AllocError> {
     let clause = b"\x04\0\0\0\x03\0\x01\x80";
     file.extend_from_slice(clause.repeat(heap, 256)?.as_slice())?;
     let wish = b"\x07\0\0\0\x04\0\x01\xf0\xd8\x01\x80";
-    file.extend_from_slice(wish.repeat(heap, 256)?.as_slice())?;
+    file.extend_from_slice(wish.repeat(heap, 128)?.as_slice())?;
+    let tagged = b"\x09\0\0\0\x07\0\x01\0\0\xf0\xd8\x01\x80";
+    file.extend_from_slice(tagged.repeat(heap, 128)?.as_slice())?;
     let undo = b"\x03\0\0\0\x05\0\x04";
     file.extend_from_slice(undo.repeat(heap, 256)?.as_slice())?;
     Ok(file)

@@ -23,6 +23,22 @@ fn empty_sheet_and_none(rt: HostRuntime) -> Result<(), Fail> {
     check_report(&rt, file.as_slice(), "no sheet\n")
 }
 
+// Two wishes of weight 3 at level 1 without a tag, two with the tag 5, one with 6; and with the tag 5 one of weight 4, and one
+// at level 2. All hold in the empty sheet. The two with the tag 5 that are equal in level and weight count once.
+const GROUPS: &[u8; 102] = b"\x0b\0\0\0\x01\0\x01\0\0\0\0\0\0\0\0\
+    \x07\0\0\0\x04\0\x01\x03\0\x01\x80\
+    \x07\0\0\0\x04\0\x01\x03\0\x01\x80\
+    \x09\0\0\0\x07\0\x01\x05\0\x03\0\x01\x80\
+    \x09\0\0\0\x07\0\x01\x05\0\x03\0\x01\x80\
+    \x09\0\0\0\x07\0\x01\x06\0\x03\0\x01\x80\
+    \x09\0\0\0\x07\0\x01\x05\0\x04\0\x01\x80\
+    \x09\0\0\0\x07\0\x02\x05\0\x03\0\x01\x80";
+
+#[test]
+fn groups_of_wishes(rt: HostRuntime) -> Result<(), Fail> {
+    check_report(&rt, GROUPS, "sheet cost 0 0 0 0 0 0 3 16 off 0\n")
+}
+
 // Adds so many wishes of weight -10,000 at the level, if mark 0 is there.
 fn add_wishes(file: &mut Vec<u8>, level: u8, times: usize) -> Result<(), AllocError> {
     let wish = [7, 0, 0, 0, 4, 0, level, 240, 216, 1, 0];
@@ -58,11 +74,11 @@ fn longest_report(rt: HostRuntime) -> Result<(), Fail> {
     check_report(&rt, longest_file(heap)?.as_slice(), lines.as_str())
 }
 
-// A file with as many records of each kind as there can be is not too much for the memory.
+// A file with as many records of each list as there can be is not too much for the memory.
 #[test]
 fn fullest_file_reported(rt: HostRuntime) -> Result<(), Fail> {
     let heap = rt.alloc();
     let mut lines = "refused 26\n".repeat(heap, 256)?;
-    lines.push_str("sheet cost 0 0 0 0 0 0 0 -2560000 off 0\n")?;
+    lines.push_str("sheet cost 0 0 0 0 0 0 0 -1290000 off 0\n")?;
     check_report(&rt, fullest_file(heap)?.as_slice(), lines.as_str())
 }

@@ -50,7 +50,7 @@ const REFUSED: [(Refusal, u32, &str, &str); 10] = [
         Refusal::UnknownKind,
         15,
         "refused 14 at 15",
-        "a record's kind is not from 1 to 5",
+        "a record's kind is not from 1 to 5 and not 7",
     ),
     (
         Refusal::HeadMisplaced,
@@ -62,7 +62,7 @@ const REFUSED: [(Refusal, u32, &str, &str); 10] = [
         Refusal::TooManyOfKind,
         4111,
         "refused 16 at 4111",
-        "there are more than 256 records of this kind",
+        "there are more than 256 records of this kind; 4 and 7 count as one",
     ),
     (
         Refusal::BodyLength,

@@ -8,16 +8,16 @@ use Rattle.rulefile.specs.declared.refusals.Refusal.{Refusal}
 use Rattle.rulefile.specs.declared.refusals.Refusal.TheVariants.{TooManyOfKind, FileTooLong}
 use Rattle.rulefile.specs.declared.refusals.BadFile.{BadFile}
 use Rattle.rulefile.specs.declared.records.Kind.{Kind}
-use Rattle.rulefile.specs.declared.records.Kind.TheVariants.{Head, Rule, Clause, Wish, Act as ActKind}
+use Rattle.rulefile.specs.declared.records.Kind.TheVariants.{Head}
 use Rattle.rulefile.specs.Ranges.{most_bytes, most_of_kind}
 use Rattle.rulefile.specs.Numbers.{kind_number, all_kinds}
 use Rattle.rulefile.specs.Model.{FileModel}
-use Rattle.rulefile.specs.Lists.{Item, list_of, with_one}
+use Rattle.rulefile.specs.Lists.{Listed, Rules, Clauses, Wishes, Acts, list_for, Item, list_of, with_one}
 use Rattle.rulefile.specs.Parser.{Parse, took, fails, Parser, after, ◌>>=◌, parsed, little}
 use Rattle.rulefile.specs.Format.{head_fields, head_body, body_of, numbered, kind_of, adding, head_alone, first_body, later_body, first, later, whole, bad, or_refused, cut, records, decode}
-use Rattle.rulefile.specs.Laws.{RecordBytes, bytes_of, Framed, lengths, bodies_of, Say, ItemBelow, Fits, Accepted}
+use Rattle.rulefile.specs.Laws.{RecordBytes, bytes_of, Framed, lengths, of_kinds, Say, ItemBelow, Fits, Accepted}
 use Rattle.rulefile.proofs.Sound.{after_took, wholly_ends, given, gives_head, HeadFits, cut_took}
-use Rattle.rulefile.proofs.Lists.{each_list, body_ends, gives_body, none_yet, one_fits, Goes, bodies_here, bodies_other}
+use Rattle.rulefile.proofs.Lists.{each_list, body_ends, gives_body, none_yet, one_fits, numbers_of, reads, Goes, records_here, records_other, read_here}
 
 -- ---- kinds
 
@@ -39,19 +39,19 @@ kind_took p (Err why) bs e = absurd (cc)
 
 -- one more of a kind, whose body ends with its last field
 record Added (f : FileModel) (k : Kind) (body : List ℕ) (g : FileModel) : Type 0 where
-  item : Item k
-  room : length (list_of k f) < most_of_kind
+  item : Item (list_for k)
+  room : length (list_of (list_for k) f) < most_of_kind
   says : body_of k f.count body ≡ took item []
   is : with_one k f item ≡ g
 
-added_took : {g : FileModel} {left : List ℕ} (f : FileModel) (k : Kind) (bs : List ℕ) → adding (length (list_of k f)) (body_of k f.count) (with_one k f) bs ≡ took g left → Added f k bs g
-added_took {g} {left} f k bs e = go (ltb (length (list_of k f)) most_of_kind) refl e
+added_took : {g : FileModel} {left : List ℕ} (f : FileModel) (k : Kind) (bs : List ℕ) → adding (length (list_of (list_for k) f)) (body_of k f.count) (with_one k f) bs ≡ took g left → Added f k bs g
+added_took {g} {left} f k bs e = go (ltb (length (list_of (list_for k) f)) most_of_kind) refl e
   where
-    go : (b : Bool) → ltb (length (list_of k f)) most_of_kind ≡ b
+    go : (b : Bool) → ltb (length (list_of (list_for k) f)) most_of_kind ≡ b
         → after {A = Unit {0}} (parsed (cond b (Ok tt) (Err TooManyOfKind)) bs) (λ _ cs. after (body_of k f.count cs) (λ x rest. took (with_one k f x) rest)) ≡ took g left → Added f k bs g
     go true t e =
         let a = after_took (body_of k f.count bs) _ e in
-        record { item = a.0; room = ltb-true (length (list_of k f)) most_of_kind t; says = a.2 ∙ ap (λ rest. took a.0 rest) (body_ends k f.count bs a.0 a.1 a.2); is = (cc) }
+        record { item = a.0; room = ltb-true (length (list_of (list_for k) f)) most_of_kind t; says = a.2 ∙ ap (λ rest. took a.0 rest) (body_ends k f.count bs a.0 a.1 a.2); is = (cc) }
     go false t e = absurd (cc)
 
 later_took : {g : FileModel} {left : List ℕ} (f : FileModel) (k : Kind) (bs : List ℕ) → later_body f k bs ≡ took g left → Added f k bs g
@@ -67,7 +67,7 @@ pub record Adds (f : FileModel) (rs : List RecordBytes) (g : FileModel) : Type 0
   pub house : f.house ≡ g.house
   pub only : AllByRecursion (λ (r : RecordBytes). little r.kind ≡ kind_number Head → ⊥) rs
   pub kinds : map Ok f.kinds ++ map (λ (r : RecordBytes). kind_of (little r.kind)) rs ≡ map Ok g.kinds
-  pub lists : (k : Kind) → Goes k f.count (list_of k f) (bodies_of (kind_number k) rs) g
+  pub lists : (l : Listed) → Goes l f.count (list_of l f) rs g
 
 adds_none : (f : FileModel) → Adds f [] f
 adds_none f = record {
@@ -75,14 +75,14 @@ adds_none f = record {
   house = refl;
   only = tt;
   kinds = append-nil _;
-  lists = λ k. append-nil _;
+  lists = λ l. append-nil _;
 }
 
 -- what was at the end of the first list is at the front of the second
 shift : {X Y : Type 0} (m : X → Y) (xs : List X) (x : X) (y : Y) (ys : List Y) → y ≡ m x → map m xs ++ y ∷ ys ≡ map m (xs ++ x ∷ []) ++ ys
 shift m xs x y ys e = rw (e, map_push m xs x) (sym (append_assoc (map m xs) (m x ∷ []) ys))
 
-no_head : (k : Kind) → Item k → kind_number k ≡ kind_number Head → ⊥
+no_head : (k : Kind) → Item (list_for k) → kind_number k ≡ kind_number Head → ⊥
 no_head Head x e = absurd x
 no_head k x e = omega (arith, e)
 
@@ -95,16 +95,20 @@ adds_more {h} r rs f g k e a s =
       house = t.house;
       only = ((λ one. no_head k a.item (sym n ∙ one)), t.only);
       kinds = shift Ok f.kinds k (kind_of (little r.kind)) _ e ∙ t.kinds;
-      lists = λ i. each_list f k a.item (λ j xs. Goes j f.count xs (bodies_of (kind_number j) rs) h → Goes j f.count (list_of j f) (bodies_of (kind_number j) (r ∷ rs)) h)
-          (λ w. subst (λ bs. Goes k f.count (list_of k f) bs h) (sym (bodies_here r rs k n)) (shift (λ x. took x []) (list_of k f) a.item (body_of k f.count r.body) _ a.says ∙ w))
-          (λ j other w. subst (λ bs. Goes j f.count (list_of j f) bs h) (sym (bodies_other r rs k n j other)) w)
+      lists = λ i. each_list f k a.item (λ j xs. Goes j f.count xs rs h → Goes j f.count (list_of j f) (r ∷ rs) h)
+          (λ w. subst (Says (list_for k)) (sym (records_here r rs k n)) (shift (λ x. took x []) (list_of (list_for k) f) a.item (reads (list_for k) f.count (little r.kind) r.body) _ (read_here r rs k n f.count ∙ a.says) ∙ w))
+          (λ j other w. subst (Says j) (sym (records_other r rs k n j other)) w)
           i (t.lists i);
     }
+  where
+    -- behind the list of f, these records say that of h
+    Says : (l : Listed) → List RecordBytes → Type 0
+    Says l qs = map (λ x. took x []) (list_of l f) ++ map (λ (q : RecordBytes). reads l f.count (little q.kind) q.body) qs ≡ map (λ x. took x []) (list_of l h)
 
 -- ---- limits
 
 later_fits : (f g : FileModel) (k : Kind) (bs : List ℕ) → Fits f → Added f k bs g → Fits g
-later_fits f g k bs h a = subst Fits a.is (one_fits f k a.item h (given (ItemBelow k f.count) a.says (gives_body k f.count bs)) a.room)
+later_fits f g k bs h a = subst Fits a.is (one_fits f k a.item h (given (ItemBelow (list_for k) f.count) a.says (gives_body k f.count bs)) a.room)
 
 -- ---- files
 
@@ -192,8 +196,8 @@ head_fits h bs e =
 made_of : {h : ℕ × ℕ} (bs rest : List ℕ) (r : RecordBytes) (f : FileModel) → length bs ≤ most_bytes → bs ≡ bytes_of r ++ rest → Framed r → kind_of (little r.kind) ≡ Ok Head → head_body r.body ≡ took h [] → Split (head_alone h) rest f → Accepted bs f
 made_of {h} bs rest r f short front framed kind says s =
     let t = s.adds in
-    let said : (k : Kind) → Say (body_of k f.count) (bodies_of (kind_number k) s.parts) (list_of k f) =
-    λ k. subst (λ n. Say (body_of k n) (bodies_of (kind_number k) s.parts) (list_of k f)) t.count (subst (λ xs. Goes k h.0 xs (bodies_of (kind_number k) s.parts) f) (none_yet k h) (t.lists k)) in
+    let said : (l : Listed) → Say (reads l f.count) (of_kinds (numbers_of l) s.parts) (list_of l f) =
+    λ l. subst (λ n. Say (reads l n) (of_kinds (numbers_of l) s.parts) (list_of l f)) t.count (subst (λ xs. Goes l h.0 xs s.parts f) (none_yet l h) (t.lists l)) in
     let whole : bs ≡ flat_map bytes_of (r ∷ s.parts) = front ∙ ap (λ xs. bytes_of r ++ xs) s.sequence in
     record {
       head = r;
@@ -205,10 +209,10 @@ made_of {h} bs rest r f short front framed kind says s =
       first = number_known (little r.kind) Head kind;
       only = t.only;
       says = says ∙ ap (λ n. took (n, h.1) []) t.count ∙ ap (λ z. took (f.count, z) []) t.house;
-      rules = said Rule;
-      clauses = said Clause;
-      wishes = said Wish;
-      acts = said ActKind;
+      rules = said Rules;
+      clauses = said Clauses;
+      wishes = said Wishes;
+      acts = said Acts;
       kinds = t.kinds;
       fits = s.fits;
       house = below_marks f.count f.house s.fits.house;

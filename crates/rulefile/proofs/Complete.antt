@@ -8,19 +8,19 @@ use Rattle.rulefile.specs.declared.refusals.ReadError.{ReadError}
 use Rattle.rulefile.specs.declared.refusals.ReadError.TheVariants.{Refused, Memory}
 use Rattle.rulefile.specs.declared.files.RuleFile.{RuleFile}
 use Rattle.rulefile.specs.declared.records.Kind.{Kind}
-use Rattle.rulefile.specs.declared.records.Kind.TheVariants.{Head, Rule, Clause, Wish, Act as ActKind}
+use Rattle.rulefile.specs.declared.records.Kind.TheVariants.{Head}
 use Rattle.rulefile.specs.Numbers.{kind_number}
-use Rattle.rulefile.specs.Lists.{list_of, with_one}
+use Rattle.rulefile.specs.Lists.{Listed, Heads, Rules, Clauses, Wishes, Acts, list_for, list_of, with_one}
 use Rattle.rulefile.specs.Model.{FileModel}
 use Rattle.rulefile.specs.Parser.{Parse, took, little}
-use Rattle.rulefile.specs.Format.{head_body, body_of, kind_of, room_at, head_alone, first_body, later_body, first, later, cut, records, decode}
+use Rattle.rulefile.specs.Format.{head_body, kind_of, room_at, head_alone, first_body, later_body, first, later, cut, records, decode}
 use Rattle.rulefile.specs.Answers.{file_of, Reads}
 use Rattle.rulefile.specs.Reading.{Reading}
-use Rattle.rulefile.specs.Laws.{RecordBytes, bytes_of, Framed, bodies_of, Fits, Accepted}
+use Rattle.rulefile.specs.Laws.{RecordBytes, bytes_of, Framed, of_kinds, Fits, Accepted}
 use Rattle.rulefile.specs.Ranges.{least_length, most_length, most_of_kind}
 use Rattle.rulefile.proofs.Frames.{cut_made}
 use Rattle.rulefile.proofs.Drafts.{adding_made, whole_cut, decode_first, records_more}
-use Rattle.rulefile.proofs.Lists.{each_list, later_item, few_items, none_yet, Goes, bodies_here, bodies_other}
+use Rattle.rulefile.proofs.Lists.{each_list, later_item, few_items, none_yet, numbers_of, reads, Goes, records_here, records_other, read_here}
 use Rattle.rulefile.proofs.Accepted.{number_known, Adds, accepted}
 
 -- ---- a record at the front of the bytes
@@ -103,22 +103,27 @@ unfolding later
 later_is g n k bs e h = rw e h
 
 module _ (g f : FileModel) (r : RecordBytes) (rs : List RecordBytes) (a : Adds g (r ∷ rs) f) (fits : Fits f) where
+  -- behind the list of g, these records say that of f
+  abbrev Says : (l : Listed) → List RecordBytes → Type 0
+  Says l qs = map (λ x. took x []) (list_of l g) ++ map (λ (q : RecordBytes). reads l g.count (little q.kind) q.body) qs ≡ map (λ x. took x []) (list_of l f)
+
   next : (k : Kind) → kind_of (little r.kind) ≡ Ok k → map Ok (g.kinds ++ k ∷ []) ++ map (λ (q : RecordBytes). kind_of (little q.kind)) rs ≡ map Ok f.kinds → Next g r rs f
   next k e o =
       let n = number_known (little r.kind) k e in
-      let here = subst (λ bs. Goes k g.count (list_of k g) bs f) (bodies_here r rs k n) (a.lists k) in
-      let x = next_of (λ x. took x []) (list_of k g) (list_of k f) (body_of k g.count r.body) _ here in
-      let room = next_room (λ x. took x []) (list_of k g) (list_of k f) (body_of k g.count r.body) _ here (few_items f fits k) in
+      let l = list_for k in
+      let here = subst (Says l) (records_here r rs k n) (a.lists l) in
+      let x = next_of (λ x. took x []) (list_of l g) (list_of l f) (reads l g.count (little r.kind) r.body) _ here in
+      let room = next_room (λ x. took x []) (list_of l g) (list_of l f) (reads l g.count (little r.kind) r.body) _ here (few_items f fits l) in
       record {
         file = with_one k g x.0;
-        says = later_is g (little r.kind) k r.body e (later_item g k x.0 r.body ∙ adding_made _ _ _ r.body [] x.0 _ (has_room _ room) x.1 refl);
+        says = later_is g (little r.kind) k r.body e (later_item g k x.0 r.body ∙ adding_made _ _ _ r.body [] x.0 _ (has_room _ room) (sym (read_here r rs k n g.count) ∙ x.1) refl);
         adds = record {
           count = a.count;
           house = a.house;
           only = a.only.1;
           kinds = o;
-          lists = each_list g k x.0 (λ j xs. Goes j g.count xs (bodies_of (kind_number j) rs) f) x.2
-              (λ j other. subst (λ bs. Goes j g.count (list_of j g) bs f) (bodies_other r rs k n j other) (a.lists j));
+          lists = each_list g k x.0 (λ j xs. Goes j g.count xs rs f) x.2
+              (λ j other. subst (Says j) (records_other r rs k n j other) (a.lists j));
         };
       }
 
@@ -139,11 +144,11 @@ same_file g f a =
     let count = a.count in
     let house = a.house in
     let kinds = same_list known known_one g.kinds f.kinds a.kinds in
-    let same : (k : Kind) → list_of k g ≡ list_of k f = λ k. same_list (λ x. took x []) took_one (list_of k g) (list_of k f) (a.lists k) in
-    let rules = same Rule in
-    let clauses = same Clause in
-    let wishes = same Wish in
-    let acts = same ActKind in
+    let same : (l : Listed) → list_of l g ≡ list_of l f = λ l. same_list (λ x. took x []) took_one (list_of l g) (list_of l f) (a.lists l) in
+    let rules = same Rules in
+    let clauses = same Clauses in
+    let wishes = same Wishes in
+    let acts = same Acts in
     rw (count, house, kinds, rules, clauses, wishes, acts)
 
 records_of : (rs : List RecordBytes) (n size : ℕ) (g f : FileModel) → AllByRecursion Framed rs → Adds g rs f → Fits f → length (flat_map bytes_of rs) ≤ n → records n size g (flat_map bytes_of rs) ≡ Ok f
@@ -157,18 +162,18 @@ records_of (r ∷ rs) n size g f framed a fits le =
     let m = records_more n size g x.file (bytes_of r ++ rest) rest (omega arith) le (whole_cut (later g) _ r.body rest (little r.kind) (cut_front r framed.0 rest) x.says) in
     m.2 ∙ records_of rs m.0 size x.file f framed.1 x.adds fits (omega (arith, m.1))
 
--- where no record is a head there are no bodies of heads
-no_heads : (rs : List RecordBytes) → AllByRecursion (λ (r : RecordBytes). little r.kind ≡ kind_number Head → ⊥) rs → bodies_of (kind_number Head) rs ≡ []
+-- where no record is a head there are no records of heads
+no_heads : (rs : List RecordBytes) → AllByRecursion (λ (r : RecordBytes). little r.kind ≡ kind_number Head → ⊥) rs → of_kinds (numbers_of Heads) rs ≡ []
 no_heads [] h = refl
 no_heads (r ∷ rs) h = rw (ne_eqb (little r.kind) (kind_number Head) h.0) (no_heads rs h.1)
 
 -- what the later records say, from the head on
-all_said : (bs : List ℕ) (f : FileModel) (a : Accepted bs f) (k : Kind) → Goes k f.count [] (bodies_of (kind_number k) a.later) f
-all_said bs f a Head = ap (map (body_of Head f.count)) (no_heads a.later a.only)
-all_said bs f a Rule = a.rules
-all_said bs f a Clause = a.clauses
-all_said bs f a Wish = a.wishes
-all_said bs f a ActKind = a.acts
+all_said : (bs : List ℕ) (f : FileModel) (a : Accepted bs f) (l : Listed) → Goes l f.count [] a.later f
+all_said bs f a Heads = ap (map (λ (r : RecordBytes). reads Heads f.count (little r.kind) r.body)) (no_heads a.later a.only)
+all_said bs f a Rules = a.rules
+all_said bs f a Clauses = a.clauses
+all_said bs f a Wishes = a.wishes
+all_said bs f a Acts = a.acts
 
 -- the first record of a file
 head_is : (n : ℕ) (bs : List ℕ) (h : ℕ × ℕ) → n ≡ kind_number Head → head_body bs ≡ took h [] → first n bs ≡ took (head_alone h) []
@@ -182,7 +187,7 @@ complete bs f a =
     let b = length-append a.head.body rest in
     let e = ap length a.sequence in
     let begun : Adds (head_alone (f.count, f.house)) a.later f = record
-    { count = refl; house = refl; only = a.only; kinds = a.kinds; lists = λ k. subst (λ xs. Goes k f.count xs (bodies_of (kind_number k) a.later) f) (sym (none_yet k (f.count, f.house))) (all_said bs f a k) } in
+    { count = refl; house = refl; only = a.only; kinds = a.kinds; lists = λ l. subst (λ xs. Goes l f.count xs a.later f) (sym (none_yet l (f.count, f.house))) (all_said bs f a l) } in
     decode_first bs rest (head_alone (f.count, f.house)) a.short
     (whole_cut first bs a.head.body rest (little a.head.kind) (ap cut a.sequence ∙ cut_front a.head a.framed.0 rest) (head_is (little a.head.kind) a.head.body (f.count, f.house) a.first a.says))
     ∙ records_of a.later (length bs) (length bs) (head_alone (f.count, f.house)) f a.framed.1 begun a.fits (omega arith)

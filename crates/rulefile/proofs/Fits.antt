@@ -7,11 +7,8 @@ use Rattle.std.proofs.lemmas.Bool.{leb-true, le-leb}
 use Rattle.sheets.specs.Sheets.{width}
 use Rattle.sheets.specs.declared.literals.Literal.{Literal}
 use Rattle.rulefile.specs.declared.constraints.Element.{Element}
-use Rattle.rulefile.specs.declared.records.Kind.{Kind}
-use Rattle.rulefile.specs.declared.records.Kind.TheVariants.{Head, Rule, Clause, Wish, Act as ActKind}
 use Rattle.rulefile.specs.Ranges.{most_of_kind}
-use Rattle.rulefile.specs.Numbers.{all_kinds}
-use Rattle.rulefile.specs.Lists.{Item, list_of}
+use Rattle.rulefile.specs.Lists.{Listed, Heads, Rules, Clauses, Wishes, Acts, all_lists, Item, list_of}
 use Rattle.rulefile.specs.Model.{ConstraintModel, RuleModel, FileModel}
 use Rattle.rulefile.specs.Limits.{literals_below, constraint_below, rule_below, item_below, is_list_fit, is_fit}
 use Rattle.rulefile.specs.Laws.{LiteralsBelow, ConstraintBelow, RuleBelow, ItemBelow, Fits}
@@ -32,31 +29,31 @@ constraint n k = decides_all (λ (e : Element). ltb e.literal.mark n) (λ (e : E
 rule : (n : ℕ) (r : RuleModel) → Decides (rule_below n r) (RuleBelow n r)
 rule n r = Decides-and _ _ (constraint n r.head) (decides_all (constraint_below n) (ConstraintBelow n) (constraint n) r.body)
 
-item : (k : Kind) (n : ℕ) (x : Item k) → Decides (item_below k n x) (ItemBelow k n x)
-item Head n x = absurd x
-item Rule n r = rule n r
-item Clause n k = literals n k
-item Wish n w = literals n w.literals
-item ActKind n a = (λ _. tt, λ _. refl)
+item : (l : Listed) (n : ℕ) (x : Item l) → Decides (item_below l n x) (ItemBelow l n x)
+item Heads n x = absurd x
+item Rules n r = rule n r
+item Clauses n k = literals n k
+item Wishes n w = literals n w.literals
+item Acts n a = (λ _. tt, λ _. refl)
 
--- the list of a kind keeps its limits
-abbrev ListFits : FileModel → Kind → Type 0
-ListFits f k = AllByRecursion (ItemBelow k f.count) (list_of k f) × (length (list_of k f) ≤ most_of_kind)
+-- the list keeps its limits
+abbrev ListFits : FileModel → Listed → Type 0
+ListFits f l = AllByRecursion (ItemBelow l f.count) (list_of l f) × (length (list_of l f) ≤ most_of_kind)
 
-lists : (f : FileModel) → Decides (list_all (is_list_fit f) all_kinds) (AllByRecursion (ListFits f) all_kinds)
-lists f = decides_all (is_list_fit f) (ListFits f) (λ k. Decides-and _ _ (decides_all (item_below k f.count) (ItemBelow k f.count) (item k f.count) (list_of k f)) (decides_leb (length (list_of k f)) most_of_kind)) all_kinds
+lists : (f : FileModel) → Decides (list_all (is_list_fit f) all_lists) (AllByRecursion (ListFits f) all_lists)
+lists f = decides_all (is_list_fit f) (ListFits f) (λ l. Decides-and _ _ (decides_all (item_below l f.count) (ItemBelow l f.count) (item l f.count) (list_of l f)) (decides_leb (length (list_of l f)) most_of_kind)) all_lists
 
--- what holds of all kinds holds of each
-of_each : (P : Kind → Type 0) → AllByRecursion P all_kinds → (k : Kind) → P k
-of_each P h Head = h.0
-of_each P h Rule = h.1.0
-of_each P h Clause = h.1.1.0
-of_each P h Wish = h.1.1.1.0
-of_each P h ActKind = h.1.1.1.1.0
+-- what holds of all lists holds of each
+of_each : (P : Listed → Type 0) → AllByRecursion P all_lists → (l : Listed) → P l
+of_each P h Heads = h.0
+of_each P h Rules = h.1.0
+of_each P h Clauses = h.1.1.0
+of_each P h Wishes = h.1.1.1.0
+of_each P h Acts = h.1.1.1.1.0
 
-of_all : (P : Kind → Type 0) → ((k : Kind) → P k) → (ks : List Kind) → AllByRecursion P ks
+of_all : (P : Listed → Type 0) → ((l : Listed) → P l) → (ls : List Listed) → AllByRecursion P ls
 of_all P h [] = tt
-of_all P h (k ∷ ks) = (h k, of_all P h ks)
+of_all P h (l ∷ ls) = (h l, of_all P h ls)
 
 -- the test passes exactly where the limits are kept
 pub decides_fit : (f : FileModel) → Decides (is_fit f) (Fits f)
@@ -64,8 +61,8 @@ unfolding is_fit
 decides_fit f =
     let d = Decides-and _ _ (decides_leb 1 f.count) (Decides-and _ _ (decides_leb f.count width) (Decides-and _ _ (Decides-ltb f.house (2 ^ f.count)) (lists f))) in
     Decides-like _
-    (λ h. fits_of f h.0 h.1.0 h.1.1.0 (λ k. (of_each (ListFits f) h.1.1.1 k).0) (λ k. (of_each (ListFits f) h.1.1.1 k).1))
-    (λ h. (h.some, (h.few, (h.house, of_all (ListFits f) (λ k. (items_below f h k, few_items f h k)) all_kinds))))
+    (λ h. fits_of f h.0 h.1.0 h.1.1.0 (λ l. (of_each (ListFits f) h.1.1.1 l).0) (λ l. (of_each (ListFits f) h.1.1.1 l).1))
+    (λ h. (h.some, (h.few, (h.house, of_all (ListFits f) (λ l. (items_below f h l, few_items f h l)) all_lists))))
     d
 
 pub fit_made : (f : FileModel) → Fits f → is_fit f ≡ true

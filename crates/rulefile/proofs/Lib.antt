@@ -10,3 +10,5 @@ pub mod Fits
 pub mod Accepted
 pub mod Complete
 pub mod Given
+pub mod Keys
+pub mod Weak

@@ -11,7 +11,7 @@ use Rattle.rulefile.specs.declared.constraints.Element.{Element}
 use Rattle.rulefile.specs.Ranges.{least_length, most_length, is_length, most_constraints, most_elements, most_clause_literals, most_wish_literals, top_level, is_weight}
 use Rattle.rulefile.specs.Model.{WishModel}
 use Rattle.rulefile.specs.Parser.{Parse, took, fails, Parser, after, check, bytes, little, field, within, times, end, wholly}
-use Rattle.rulefile.specs.Format.{literal, element, constraint, signed_field, sheet_field, head_fields, head_body, rule_fields, rule_body, clause_fields, clause_body, wish_fields, wish_body, cut}
+use Rattle.rulefile.specs.Format.{literal, element, constraint, signed_field, tag_field, sheet_field, head_fields, head_body, rule_fields, rule_body, clause_fields, clause_body, wish_fields, wish_body, cut}
 use Rattle.rulefile.specs.Laws.{RecordBytes, bytes_of, Framed, LiteralsBelow, ConstraintBelow, RuleBelow}
 
 -- ---- one parser after another
@@ -162,17 +162,17 @@ gives_clause count bs = gives_wholly (LiteralsBelow count) (clause_fields count)
 abbrev WishBelow : ℕ → WishModel → Type 0
 WishBelow count w = LiteralsBelow count w.literals
 
-gives_wish_fields : (count : ℕ) (bs : List ℕ) → Gives (WishBelow count) (wish_fields count bs)
+gives_wish_fields : (tagged : Bool) (count : ℕ) (bs : List ℕ) → Gives (WishBelow count) (wish_fields tagged count bs)
 unfolding wish_fields
-gives_wish_fields count bs =
+gives_wish_fields tagged count bs =
     let P = LiteralsBelow count in
     let Q = WishBelow count in
-    gives_then Q (within 1 top_level bs) _ (λ level r. gives_then Q (signed_field r) _ (λ w r. gives_then Q (check (is_weight w) OutOfRange r) _ (λ _ r.
-    gives_then Q (within 1 most_wish_literals r) _ (λ n r. gives_after P Q (times n (literal count) r) _ (gives_literals count n r) (λ ls _ h. h)))))
+    gives_then Q (within 1 top_level bs) _ (λ level r. gives_then Q (tag_field tagged r) _ (λ t r. gives_then Q (signed_field r) _ (λ w r. gives_then Q (check (is_weight w) OutOfRange r) _ (λ _ r.
+    gives_then Q (within 1 most_wish_literals r) _ (λ n r. gives_after P Q (times n (literal count) r) _ (gives_literals count n r) (λ ls _ h. h))))))
 
-pub gives_wish : (count : ℕ) (bs : List ℕ) → Gives (λ (w : WishModel). LiteralsBelow count w.literals) (wish_body count bs)
+pub gives_wish : (tagged : Bool) (count : ℕ) (bs : List ℕ) → Gives (λ (w : WishModel). LiteralsBelow count w.literals) (wish_body tagged count bs)
 unfolding wish_body
-gives_wish count bs = gives_wholly (WishBelow count) (wish_fields count) bs (gives_wish_fields count bs)
+gives_wish tagged count bs = gives_wholly (WishBelow count) (wish_fields tagged count) bs (gives_wish_fields tagged count bs)
 
 -- a count in its range, and a house sheet below it
 abbrev pub HeadFits : ℕ × ℕ → Type 0

@@ -1,5 +1,5 @@
 -- The meaning of a rule file.
-use Rattle.std.specs.Prelude.{ℕ, zero, suc, ◌-◌, ◌%◌, ◌^◌, cond, List, [], ◌∷◌, length, take, drop, ℤ, pos, negsuc, Some, None, Ok, Err, Option, Result, ◌==◌, nat_le, nat_lt}
+use Rattle.std.specs.Prelude.{ℕ, Bool, true, false, zero, suc, ◌-◌, ◌%◌, ◌^◌, cond, List, [], ◌∷◌, length, take, drop, ℤ, pos, negsuc, Some, None, Ok, Err, Option, Result, ◌==◌, nat_le, nat_lt}
 use Rattle.sheets.specs.Sheets.{Sheet, Count, width, within_count}
 use Rattle.sheets.specs.declared.literals.Literal.{Literal}
 use Rattle.rulefile.specs.declared.refusals.Refusal.{Refusal}
@@ -9,11 +9,11 @@ use Rattle.rulefile.specs.declared.constraints.Element.{Element}
 use Rattle.rulefile.specs.declared.records.Act.{Act}
 use Rattle.rulefile.specs.declared.records.Act.TheVariants.{Pin, Bar, Strike, Undo}
 use Rattle.rulefile.specs.declared.records.Kind.{Kind}
-use Rattle.rulefile.specs.declared.records.Kind.TheVariants.{Head, Rule, Clause, Wish, Act as ActKind}
+use Rattle.rulefile.specs.declared.records.Kind.TheVariants.{Head, Rule, Clause, Wish, Act as ActKind, TaggedWish}
 use Rattle.rulefile.specs.Ranges.{most_bytes, most_of_kind, most_constraints, most_elements, most_clause_literals, most_wish_literals, top_level, is_weight, no_high, most_code, not_bit, sheet_bytes, is_length}
 use Rattle.rulefile.specs.Numbers.{kind_number, all_kinds}
 use Rattle.rulefile.specs.Model.{ConstraintModel, RuleModel, WishModel, FileModel}
-use Rattle.rulefile.specs.Lists.{Item, list_of, with_one}
+use Rattle.rulefile.specs.Lists.{Item, list_for, list_of, with_one}
 use Rattle.rulefile.specs.Parser.{Parse, took, fails, Parser, after, ◌>>=◌, ◌>>◌, pure, refuse, check, parsed, bytes, little, field, within, times, wholly}
 
 -- ---- fields
@@ -99,19 +99,27 @@ clause_fields count = do
 unfoldable pub clause_body : Count → Parser (List Literal)
 clause_body count = wholly (clause_fields count)
 
--- kind 4: level, weight, the number of literals, the literals
-unfoldable pub wish_fields : Count → Parser WishModel
-wish_fields count = do
+-- the tag of a wish: a field of two bytes, if it has one
+unfoldable pub tag_field : Bool → Parser (Option ℕ)
+tag_field true = do
+  t ← field 2
+  pure (Some t)
+tag_field false = pure None
+
+-- kinds 4 and 7: level, the tag that kind 7 has, weight, the number of literals, the literals
+unfoldable pub wish_fields : Bool → Count → Parser WishModel
+wish_fields tagged count = do
   level ← within 1 top_level
+  tag ← tag_field tagged
   w ← signed_field
   check (is_weight w) OutOfRange
   n ← within 1 most_wish_literals
   ls ← times n (literal count)
-  pure (record { level = level; weight = w; literals = ls })
+  pure (record { level = level; tag = tag; weight = w; literals = ls })
 
 -- the same, to the last byte of the body
-unfoldable pub wish_body : Count → Parser WishModel
-wish_body count = wholly (wish_fields count)
+unfoldable pub wish_body : Bool → Count → Parser WishModel
+wish_body tagged count = wholly (wish_fields tagged count)
 
 -- an act by its code, from 1 to `most_code`
 unfoldable pub act_of : Count → ℕ → Parser Act
@@ -148,11 +156,11 @@ numbered (k ∷ ks) n = cond (n == kind_number k) (Ok k) (numbered ks n)
 abbrev pub kind_of : ℕ → Result Kind Refusal
 kind_of = numbered all_kinds
 
--- where n of a kind are read, one more may be, up to `most_of_kind`
+-- where a list has n, one more may be read, up to `most_of_kind`
 abbrev pub room_at : ℕ → Result (Unit {0}) Refusal
 room_at n = cond (nat_lt n most_of_kind) (Ok tt) (Err TooManyOfKind)
 
--- one more of a kind of which n are read: its body is read, and put into the file
+-- one more for a list in which n are: its body is read, and put into the file
 abbrev pub adding : {A : Type 0} → ℕ → Parser A → (A → FileModel) → Parser FileModel
 adding n p put = do
   parsed (room_at n)
@@ -171,17 +179,18 @@ first_body Head = do
 first_body k = refuse HeadMisplaced
 
 -- the body of a later record, by its kind: a head is refused
-abbrev pub body_of : (k : Kind) → Count → Parser (Item k)
+abbrev pub body_of : (k : Kind) → Count → Parser (Item (list_for k))
 body_of Head count = refuse HeadMisplaced
 body_of Rule count = rule_body count
 body_of Clause count = clause_body count
-body_of Wish count = wish_body count
+body_of Wish count = wish_body false count
 body_of ActKind count = act_body count
+body_of TaggedWish count = wish_body true count
 
--- a later record, by its kind, from its body: one more of this kind, but for a head
+-- a later record, by its kind, from its body: one more for the list of this kind, but for a head
 unfoldable pub later_body : FileModel → Kind → Parser FileModel
 later_body f Head = refuse HeadMisplaced
-later_body f k = adding (length (list_of k f)) (body_of k f.count) (with_one k f)
+later_body f k = adding (length (list_of (list_for k) f)) (body_of k f.count) (with_one k f)
 
 -- the first record, by the number of its kind
 unfoldable pub first : ℕ → Parser FileModel

@@ -1,15 +1,14 @@
 -- What every accepted file keeps, in the words of the format.
 use Rattle.std.specs.Prelude.{◌≡◌, ℕ, ◌+◌, ◌^◌, ◌<◌, ◌≤◌, cond, List, [], ◌∷◌, ◌++◌, map, length, Ok, ◌==◌, ◌≢◌}
-use Rattle.std.specs.List.{flat_map, AllByRecursion}
+use Rattle.std.specs.List.{flat_map, list_any, AllByRecursion}
 use Rattle.sheets.specs.Sheets.{Count, width, MarksBelow}
 use Rattle.sheets.specs.declared.literals.Literal.{Literal}
 use Rattle.rulefile.specs.declared.constraints.Element.{Element}
-use Rattle.rulefile.specs.declared.records.Kind.{Kind}
-use Rattle.rulefile.specs.declared.records.Kind.TheVariants.{Head, Rule, Clause, Wish, Act}
+use Rattle.rulefile.specs.declared.records.Kind.TheVariants.{Head, Rule, Clause, Wish, Act, TaggedWish}
 use Rattle.rulefile.specs.Numbers.{kind_number}
 use Rattle.rulefile.specs.Ranges.{most_bytes, most_length, most_of_kind}
 use Rattle.rulefile.specs.Model.{ConstraintModel, RuleModel, WishModel, FileModel}
-use Rattle.rulefile.specs.Lists.{Item}
+use Rattle.rulefile.specs.Lists.{Listed, Heads, Rules, Clauses, Wishes, Acts, Item}
 use Rattle.rulefile.specs.Parser.{Parser, took, little}
 use Rattle.rulefile.specs.Format.{head_body, rule_body, clause_body, wish_body, act_body, kind_of}
 
@@ -35,14 +34,15 @@ abbrev pub lengths : List RecordBytes → ℕ
 lengths [] = 0
 lengths (r ∷ rs) = 4 + little r.size + lengths rs
 
--- the bodies of the records whose kind has the number k, in file order
-abbrev pub bodies_of : ℕ → List RecordBytes → List (List ℕ)
-bodies_of k [] = []
-bodies_of k (r ∷ rs) = cond (little r.kind == k) (r.body ∷ bodies_of k rs) (bodies_of k rs)
+-- the records whose kind has one of the numbers, in file order
+abbrev pub of_kinds : List ℕ → List RecordBytes → List RecordBytes
+of_kinds ks [] = []
+of_kinds ks (r ∷ rs) = cond (list_any (λ k. little r.kind == k) ks) (r ∷ of_kinds ks rs) (of_kinds ks rs)
 
--- there are as many bodies as xs, and the parser reads the n-th body, to its last byte, as the n-th of xs
-abbrev pub Say : {A : Type 0} → Parser A → List (List ℕ) → List A → Type 0
-Say p bodies xs = map p bodies ≡ map (λ x. took x []) xs
+-- there are as many records as xs, and the parser, by the number of the kind, reads the body of the n-th, to its last byte,
+-- as the n-th of xs
+abbrev pub Say : {A : Type 0} → (ℕ → Parser A) → List RecordBytes → List A → Type 0
+Say p rs xs = map (λ r. p (little r.kind) r.body) rs ≡ map (λ x. took x []) xs
 
 -- every mark is below n
 abbrev pub LiteralsBelow : Count → List Literal → Type 0
@@ -56,16 +56,17 @@ ConstraintBelow n k = AllByRecursion (λ (e : Element). e.literal.mark < n) k.el
 abbrev pub RuleBelow : Count → RuleModel → Type 0
 RuleBelow n r = ConstraintBelow n r.head × AllByRecursion (ConstraintBelow n) r.body
 
--- what is kept of a record, by its kind: its marks are below n; of the marks of acts nothing is said
-abbrev pub ItemBelow : (k : Kind) → Count → Item k → Type 0
-ItemBelow Head n x = ⊥
-ItemBelow Rule n r = RuleBelow n r
-ItemBelow Clause n k = LiteralsBelow n k
-ItemBelow Wish n w = LiteralsBelow n w.literals
-ItemBelow Act n a = Unit {0}
+-- what is kept of an item, by its list: its marks are below n; of the marks of acts nothing is said
+abbrev pub ItemBelow : (l : Listed) → Count → Item l → Type 0
+ItemBelow Heads n x = ⊥
+ItemBelow Rules n r = RuleBelow n r
+ItemBelow Clauses n k = LiteralsBelow n k
+ItemBelow Wishes n w = LiteralsBelow n w.literals
+ItemBelow Acts n a = Unit {0}
 
 -- the limits of a file: the count is from 1 to the width, the marks of the house sheet, of rules, clauses and wishes are
--- below it, and there are at most `most_of_kind` of a kind; of the marks of acts nothing is said
+-- below it, and there are at most `most_of_kind` of a kind, of wishes of both kinds together; of the marks of acts nothing is
+-- said
 pub record Fits (f : FileModel) : Type 0 where
   pub some : 1 ≤ f.count
   pub few : f.count ≤ width
@@ -90,12 +91,12 @@ pub record Accepted (bytes : List ℕ) (f : FileModel) : Type 0 where
   -- the first record is the head, and no other is
   pub first : little head.kind ≡ kind_number Head
   pub only : AllByRecursion (λ r. little r.kind ≢ kind_number Head) later
-  -- each record says its part, and the parts of a kind come in file order
+  -- each record says its part, and the parts of a kind come in file order; so do wishes of both kinds together
   pub says : head_body head.body ≡ took (f.count, f.house) []
-  pub rules : Say (rule_body f.count) (bodies_of (kind_number Rule) later) f.rules
-  pub clauses : Say (clause_body f.count) (bodies_of (kind_number Clause) later) f.clauses
-  pub wishes : Say (wish_body f.count) (bodies_of (kind_number Wish) later) f.wishes
-  pub acts : Say (act_body f.count) (bodies_of (kind_number Act) later) f.acts
+  pub rules : Say (λ _. rule_body f.count) (of_kinds (kind_number Rule ∷ []) later) f.rules
+  pub clauses : Say (λ _. clause_body f.count) (of_kinds (kind_number Clause ∷ []) later) f.clauses
+  pub wishes : Say (λ k. wish_body (k == kind_number TaggedWish) f.count) (of_kinds (kind_number Wish ∷ kind_number TaggedWish ∷ []) later) f.wishes
+  pub acts : Say (λ _. act_body f.count) (of_kinds (kind_number Act ∷ []) later) f.acts
   pub kinds : map (λ r. kind_of (little r.kind)) later ≡ map Ok f.kinds
   -- each number and mark keeps its limit
   pub fits : Fits f

@@ -10,3 +10,5 @@ pub mod Format
 pub mod Answers
 pub mod Laws
 pub mod Reading
+pub mod WeakConstraints
+pub mod Unique

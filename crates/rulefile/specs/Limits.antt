@@ -4,11 +4,8 @@ use Rattle.std.specs.List.{list_all}
 use Rattle.sheets.specs.Sheets.{Count, width, within_count}
 use Rattle.sheets.specs.declared.literals.Literal.{Literal}
 use Rattle.rulefile.specs.declared.constraints.Element.{Element}
-use Rattle.rulefile.specs.declared.records.Kind.{Kind}
-use Rattle.rulefile.specs.declared.records.Kind.TheVariants.{Head, Rule, Clause, Wish, Act}
 use Rattle.rulefile.specs.Ranges.{most_of_kind}
-use Rattle.rulefile.specs.Numbers.{all_kinds}
-use Rattle.rulefile.specs.Lists.{Item, list_of}
+use Rattle.rulefile.specs.Lists.{Listed, Heads, Rules, Clauses, Wishes, Acts, all_lists, Item, list_of}
 use Rattle.rulefile.specs.Model.{ConstraintModel, RuleModel, FileModel}
 
 -- the marks of all literals are below n
@@ -23,18 +20,18 @@ constraint_below n k = list_all (λ (e : Element). nat_lt e.literal.mark n) k.el
 abbrev pub rule_below : Count → RuleModel → Bool
 rule_below n r = constraint_below n r.head && list_all (constraint_below n) r.body
 
--- the marks of what a record of the kind says are below n; those of acts are not tested
-abbrev pub item_below : (k : Kind) → Count → Item k → Bool
-item_below Head n x = absurd x
-item_below Rule n r = rule_below n r
-item_below Clause n k = literals_below n k
-item_below Wish n w = literals_below n w.literals
-item_below Act n a = true
+-- the marks of an item of the list are below n; those of acts are not tested
+abbrev pub item_below : (l : Listed) → Count → Item l → Bool
+item_below Heads n x = absurd x
+item_below Rules n r = rule_below n r
+item_below Clauses n k = literals_below n k
+item_below Wishes n w = literals_below n w.literals
+item_below Acts n a = true
 
--- the list of the kind has such items, and at most `most_of_kind`
-abbrev pub is_list_fit : FileModel → Kind → Bool
-is_list_fit f k = list_all (item_below k f.count) (list_of k f) && nat_le (length (list_of k f)) most_of_kind
+-- the list has such items, and at most `most_of_kind`
+abbrev pub is_list_fit : FileModel → Listed → Bool
+is_list_fit f l = list_all (item_below l f.count) (list_of l f) && nat_le (length (list_of l f)) most_of_kind
 
 -- the count is from 1 to the width, each mark of the house sheet is below it, and each list is fit
 unfoldable pub is_fit : FileModel → Bool
-is_fit f = nat_le 1 f.count && (nat_le f.count width && (within_count f.count f.house && list_all (is_list_fit f) all_kinds))
+is_fit f = nat_le 1 f.count && (nat_le f.count width && (within_count f.count f.house && list_all (is_list_fit f) all_lists))

@@ -21,13 +21,14 @@ pub record RuleModel : Type 0 where
   pub head : ConstraintModel
   pub body : List ConstraintModel
 
--- the weight that the wish costs at its level where all its literals hold
+-- the weight that the wish costs at its level where all its literals hold, and the tag, if it has one, of its group
 pub record WishModel : Type 0 where
   pub level : ℕ
+  pub tag : Option ℕ
   pub weight : ℤ
   pub literals : List Literal
 
--- count and house sheet; the rules, clauses, wishes and acts in file order; and the kinds of all later records in file order
+-- count and house sheet; the rules, clauses, wishes of both kinds and acts in file order; and the kinds of all later records in file order
 pub record FileModel : Type 0 where
   pub count : Count
   pub house : Sheet
@@ -52,7 +53,7 @@ clause_of k = vec_items k.literals
 
 -- a wish
 abbrev pub wish_of : Wish → WishModel
-wish_of w = record { level = w.level; weight = w.weight; literals = vec_items w.literals }
+wish_of w = record { level = w.level; tag = w.tag; weight = w.weight; literals = vec_items w.literals }
 
 -- a file, from its count, its house sheet and its lists
 abbrev pub model_of : Count → Sheet → List Rule → List Clause → List Wish → List Act → List Kind → FileModel

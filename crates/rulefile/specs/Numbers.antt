@@ -3,7 +3,7 @@ use Rattle.std.specs.Prelude.{ℕ, List, [], ◌∷◌}
 use Rattle.rulefile.specs.declared.refusals.Refusal.{Refusal}
 use Rattle.rulefile.specs.declared.refusals.Refusal.TheVariants.{FileTooLong, RecordCut, LengthRange, LengthPastEnd, UnknownKind, HeadMisplaced, TooManyOfKind, BodyLength, OutOfRange, MarkRange}
 use Rattle.rulefile.specs.declared.records.Kind.{Kind}
-use Rattle.rulefile.specs.declared.records.Kind.TheVariants.{Head, Rule, Clause, Wish, Act}
+use Rattle.rulefile.specs.declared.records.Kind.TheVariants.{Head, Rule, Clause, Wish, Act, TaggedWish}
 
 -- the number of each refusal of a file
 abbrev pub number : Refusal → ℕ
@@ -25,7 +25,8 @@ kind_number Rule = 2
 kind_number Clause = 3
 kind_number Wish = 4
 kind_number Act = 5
+kind_number TaggedWish = 7
 
 -- all kinds, by their numbers
 abbrev pub all_kinds : List Kind
-all_kinds = Head ∷ Rule ∷ Clause ∷ Wish ∷ Act ∷ []
+all_kinds = Head ∷ Rule ∷ Clause ∷ Wish ∷ Act ∷ TaggedWish ∷ []

@@ -13,7 +13,7 @@ least_length = 2
 abbrev pub most_length : ℕ
 most_length = 1024
 
--- how many records of one kind a file can have
+-- how many records of one kind a file can have; wishes of both kinds count as one
 abbrev pub most_of_kind : ℕ
 most_of_kind = 256
 

@@ -1,5 +1,5 @@
 // The fields of a record's body, read one after another.
-ghost use Rattle.std.specs.Prelude.{◌≡◌, ◌≤◌, ℕ, List, [], length, map, vec_items};
+ghost use Rattle.std.specs.Prelude.{◌≡◌, ◌≤◌, ℕ, true, false, List, [], length, map, vec_items};
 ghost use Rattle.sheets.specs.Sheets.{width};
 ghost use Rattle.sheets.specs.declared.literals.Literal.{Literal};
 ghost use Rattle.rulefile.specs.Ranges.{is_weight, sheet_bytes};
@@ -7,7 +7,7 @@ ghost use Rattle.rulefile.specs.declared.constraints.Element.{Element};
 ghost use Rattle.rulefile.specs.declared.records.Act.{Act};
 ghost use Rattle.rulefile.specs.Model.{ConstraintModel, RuleModel, WishModel, constraint_of, rule_of, clause_of, wish_of};
 ghost use Rattle.rulefile.specs.Parser.{Parser, little, bytes as bytes_spec, within as within_spec, times, end as end_spec, wholly, parsed};
-ghost use Rattle.rulefile.specs.Format.{literal as literal_spec, element as element_spec, constraint as constraint_spec, high_of, sheet_length, sheet_field, act_fields, head_fields, rule_fields, clause_fields, wish_fields};
+ghost use Rattle.rulefile.specs.Format.{literal as literal_spec, element as element_spec, constraint as constraint_spec, high_of, sheet_length, sheet_field, act_fields, head_fields, rule_fields, clause_fields, tag_field, wish_fields};
 ghost use Rattle.rulefile.specs.Answers.{Parses};
 
 use crate::constraints::{Constraint, Element};
@@ -18,7 +18,7 @@ use crate::limits::{
 use crate::records::{Act, Clause, Head, Rule};
 use crate::refusals::{Fault, Refusal};
 use crate::uniform::Uniform;
-use crate::wishes::Wish;
+use crate::wishes::{TaggedWish, Wish};
 use sheets::{Literal, LiteralSet, Sheet, within_count};
 use std::alloc::Global;
 
@@ -264,29 +264,65 @@ fn weight_fits(weight: i16) -> bool
     (-MOST_WEIGHT..=MOST_WEIGHT).contains(&weight)
 }
 
-#[tactic(auto, using(crate::proofs::Fields::little_of_2), unfolding(crate::specs::Format::wish_fields, crate::specs::Parser::field, crate::specs::Format::signed_field))]
-impl Field for Wish {
-    ghost Meaning = { WishModel };
+// The tag of a wish, if it has one.
+#[tactic(auto, using(crate::proofs::Fields::little_of_2), unfolding(crate::specs::Format::tag_field, crate::specs::Parser::field))]
+fn tag(body: &mut Body<'_>, is_tagged: bool) -> Result<Option<u16>, Refusal>
+    ensures parses { tag_field is_tagged body.old.rest.now ≡ parsed result body.new.rest.now }
+    ensures kept { body.new.count ≡ body.old.count }
+{
+    if is_tagged {
+        Ok(Some(u16::from_le_bytes(body.bytes()?)))
+    } else {
+        Ok(None)
+    }
+}
 
-    ghost meaning = { wish_of };
-
-    ghost parser = { wish_fields };
-
-    fn read(body: &mut Body<'_>) -> Result<Wish, Fault> {
+impl Wish {
+    // A wish, with a tag or without.
+    #[tactic(auto, using(crate::proofs::Fields::little_of_2), unfolding(crate::specs::Format::wish_fields, crate::specs::Parser::field, crate::specs::Format::signed_field))]
+    fn read_of(body: &mut Body<'_>, is_tagged: bool) -> Result<Wish, Fault>
+        ensures parses { Parses wish_of (wish_fields is_tagged body.old.count body.old.rest.now) result body.new.rest.now }
+        ensures kept { body.new.count ≡ body.old.count }
+    {
         let level = body.within(1, TOP_LEVEL)?;
+        let tag = tag(body, is_tagged)?;
         let weight = i16::from_le_bytes(body.bytes()?);
         if !weight_fits(weight) {
             return Err(Fault::Bad(Refusal::OutOfRange));
         }
         let n = body.within(1, MOST_WISH_LITERALS)?;
-        let literals: Vec<Literal> = body.several(n)?;
-        let set = LiteralSet::of(&literals);
+        let literals = body.several(n)?;
         Ok(Wish {
             level,
+            tag,
             weight,
             literals,
-            set,
         })
+    }
+}
+
+impl Field for Wish {
+    ghost Meaning = { WishModel };
+
+    ghost meaning = { wish_of };
+
+    ghost parser = { wish_fields false };
+
+    fn read(body: &mut Body<'_>) -> Result<Wish, Fault> {
+        Wish::read_of(body, false)
+    }
+}
+
+impl Field for TaggedWish {
+    ghost Meaning = { WishModel };
+
+    ghost meaning = { λ tagged. wish_of tagged.0 };
+
+    ghost parser = { wish_fields true };
+
+    fn read(body: &mut Body<'_>) -> Result<TaggedWish, Fault> {
+        let wish = Wish::read_of(body, true)?;
+        Ok(TaggedWish(wish))
     }
 }
 

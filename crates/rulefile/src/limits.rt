@@ -10,7 +10,7 @@ pub const LEAST_LENGTH: u32 = 2;
 // The greatest length that a record can say.
 pub const MOST_LENGTH: u32 = 1_024;
 
-// How many records of one kind a file can have.
+// How many records of one kind a file can have; wishes of both kinds count as one.
 pub const MOST_OF_KIND: usize = 256;
 
 // The greatest count of marks.

@@ -1,7 +1,8 @@
 // A file, record by record.
-ghost use Rattle.std.specs.Prelude.{◌≡◌, ◌≤◌, ◌<◌, [], length, map, IfOk, MatchResult};
+ghost use Rattle.std.specs.Prelude.{◌≡◌, ◌≤◌, ◌<◌, true, [], length, map, IfOk, MatchResult};
 ghost use Rattle.rulefile.specs.Parser.{took, wholly};
-ghost use Rattle.rulefile.specs.Format.{room_at, head_alone, first as first_spec, later, whole as whole_spec, decode, file_or_head_alone};
+ghost use Rattle.rulefile.specs.Model.{wish_of};
+ghost use Rattle.rulefile.specs.Format.{wish_fields, room_at, head_alone, first as first_spec, later, whole as whole_spec, decode, file_or_head_alone};
 ghost use Rattle.rulefile.specs.Answers.{file_of, draft_of, Parses, Faults, one_more};
 ghost use Rattle.rulefile.specs.Laws.{Fits};
 ghost use Rattle.rulefile.specs.Reading.{Reading};
@@ -10,12 +11,14 @@ use crate::body::{Body, Field};
 use crate::draft::Draft;
 use crate::files::RuleFile;
 use crate::frame::cut;
+use crate::groups::weak_constraints;
 use crate::limits::{MOST_BYTES, MOST_OF_KIND};
 use crate::records::{Head, Kind};
 use crate::refusals::{Fault, ReadError, Refusal};
+use crate::wishes::{TaggedWish, Wish};
 use std::alloc::{AllocError, Global};
 
-// Whether one more of a kind may be read, where `n` are.
+// Whether one more may be read for a list in which `n` are.
 fn room(n: usize) -> Result<(), Refusal>
     ensures { result ≡ room_at n }
 {
@@ -26,12 +29,22 @@ fn room(n: usize) -> Result<(), Refusal>
     }
 }
 
-// One more of a kind is read from its body, and put behind those that were read before.
+// One more record of a list is read from its body, and put behind those that were read before.
 fn add_to<T: Field>(list: &mut Vec<T>, body: Body<'_>) -> Result<(), Fault>
     ensures { Parses (λ _. map T.meaning list.new.items) (one_more (map T.meaning list.old.items) (wholly (T.parser body.entry.count)) body.entry.rest.now) result [] }
 {
     room(list.len())?;
     list.push(body.whole()?)?;
+    Ok(())
+}
+
+// The same of a wish with a tag, which is put behind all wishes.
+fn add_tagged(wishes: &mut Vec<Wish>, body: Body<'_>) -> Result<(), Fault>
+    ensures { Parses (λ _. map wish_of wishes.new.items) (one_more (map wish_of wishes.old.items) (wholly (wish_fields true body.entry.count)) body.entry.rest.now) result [] }
+{
+    room(wishes.len())?;
+    let TaggedWish(wish) = body.whole()?;
+    wishes.push(wish)?;
     Ok(())
 }
 
@@ -88,6 +101,7 @@ impl Draft {
             Kind::Clause => add_to(&mut self.clauses, body)?,
             Kind::Wish => add_to(&mut self.wishes, body)?,
             Kind::Act => add_to(&mut self.acts, body)?,
+            Kind::TaggedWish => add_tagged(&mut self.wishes, body)?,
         }
         self.kinds.push(kind)?;
         Ok(())
@@ -105,12 +119,12 @@ impl Draft {
 
     // The file, once it is read to its end. No `From`, which could not ask for the limits.
     #[tactic(auto, using(crate::proofs::Fits::fit_made))]
-    fn finish(self) -> RuleFile
+    fn finish(self) -> Result<RuleFile, AllocError>
         requires { Fits (draft_of self) }
-        ensures { file_of result ≡ draft_of self }
+        ensures { IfOk result (λ f. file_of f ≡ draft_of self) }
     {
         let Draft {
-            heap: _,
+            heap,
             count,
             house,
             rules,
@@ -119,15 +133,18 @@ impl Draft {
             acts,
             kinds,
         } = self;
-        RuleFile {
+        let (singles, groups) = weak_constraints(heap, &wishes)?;
+        Ok(RuleFile {
             count,
             house,
             rules,
             clauses,
             wishes,
+            singles,
+            groups,
             acts,
             kinds,
-        }
+        })
     }
 }
 
@@ -146,7 +163,7 @@ pub fn read(heap: Global, bytes: &[u8]) -> Result<RuleFile, ReadError>
         let at = size - rest.len();
         rest = draft.add_first(rest).map_err(|fault| fault.located(at))?;
     }
-    Ok(draft.finish())
+    Ok(draft.finish()?)
 }
 
 // The file that the bytes stand for; refused bytes stand for a head alone, with count 1 and an empty house sheet.
@@ -158,7 +175,7 @@ pub fn read_or_head_alone(heap: Global, bytes: &[u8]) -> Result<RuleFile, AllocE
         Err(ReadError::Memory(error)) => Err(error),
         Err(ReadError::Refused(_)) => {
             let head = Head { count: 1, house: 0 };
-            Ok(Draft::head_alone(heap, head).finish())
+            Draft::head_alone(heap, head).finish()
         }
     }
 }

@@ -24,6 +24,8 @@ pub enum Kind {
     Wish = 4,
     // A call on the acts of an order.
     Act = 5,
+    // A wish with a tag. There is no kind 6.
+    TaggedWish = 7,
 }
 
 // The numbers of the kinds, to match.
@@ -36,6 +38,8 @@ const CLAUSE: u16 = Kind::Clause as u16;
 const WISH: u16 = Kind::Wish as u16;
 
 const ACT: u16 = Kind::Act as u16;
+
+const TAGGED_WISH: u16 = Kind::TaggedWish as u16;
 
 impl Kind {
     // The number by which a file knows the kind.
@@ -61,6 +65,7 @@ impl TryFrom<u16> for Kind {
             CLAUSE => Ok(Kind::Clause),
             WISH => Ok(Kind::Wish),
             ACT => Ok(Kind::Act),
+            TAGGED_WISH => Ok(Kind::TaggedWish),
             _ => Err(Refusal::UnknownKind),
         }
     }

@@ -26,7 +26,7 @@ pub enum Refusal {
     UnknownKind = 14,
     // The first record is not a head, or a later one is.
     HeadMisplaced = 15,
-    // There are `MOST_OF_KIND` records of this kind before it.
+    // There are `MOST_OF_KIND` records of this kind before it; wishes of both kinds count as one.
     TooManyOfKind = 16,
     // A body ends before a field, or goes on after its last.
     BodyLength = 17,
@@ -64,16 +64,19 @@ impl fmt::Display for Refusal {
             ),
             Refusal::UnknownKind => write!(
                 f,
-                "a record's kind is not from {} to {}",
+                "a record's kind is not from {} to {} and not {}",
                 Kind::Head.number(),
-                Kind::Act.number()
+                Kind::Act.number(),
+                Kind::TaggedWish.number()
             ),
             Refusal::HeadMisplaced => f.write_str(
                 "the first record is not a head, or a later one is",
             ),
             Refusal::TooManyOfKind => write!(
                 f,
-                "there are more than {MOST_OF_KIND} records of this kind"
+                "there are more than {MOST_OF_KIND} records of this kind; {} and {} count as one",
+                Kind::Wish.number(),
+                Kind::TaggedWish.number()
             ),
             Refusal::BodyLength => f.write_str(
                 "a record's body ends before a field, or goes on after its last",
@@ -128,6 +131,17 @@ impl fmt::Display for ReadError {
 }
 
 impl Error for ReadError {}
+
+impl From<AllocError> for ReadError {
+    ghost use Rattle.std.specs.Prelude.{◌≡◌};
+    ghost use Rattle.rulefile.specs.declared.refusals.ReadError.TheVariants.{Memory};
+
+    ghost from_gives = { λ error r. r ≡ Memory error };
+
+    fn from(error: AllocError) -> ReadError {
+        ReadError::Memory(error)
+    }
+}
 
 // Why a part of a file was not read, before the offset is known.
 #[derive(Clone, Copy, Debug, PartialEq, Eq)]

@@ -1,20 +1,27 @@
 // Wishes.
 ghost use Rattle.std.specs.Prelude.{◌≡◌, ◌≤◌, true, vec_len, vec_items};
-ghost use Rattle.std.specs.List.{list_all};
-ghost use Rattle.sheets.specs.Literals.{held};
-ghost use Rattle.sheets.specs.LiteralSets.{Stands};
+ghost use Rattle.sheets.specs.LiteralSets.{MarksInWidth};
 ghost use Rattle.rulefile.specs.Ranges.{is_weight, top_level, most_wish_literals};
 
-use sheets::{Interpretation, Literal, LiteralSet};
+use sheets::Literal;
 
-// Costs `weight` at `level` where all its literals hold; a negative weight is a gain.
+// What the wishes of a group share.
+#[derive(Clone, Copy, Debug, PartialEq, Eq)]
+pub struct Key {
+    level: u8,
+    weight: i16,
+    tag: u16,
+}
+
+// Costs `weight` at `level` where all its literals hold; a negative weight is a gain. Of wishes with a tag, those equal in
+// level, weight and tag are a group, which costs once.
 #[derive(Drop)]
 pub struct Wish {
     pub level: u8,
+    // A record of kind 7 has one.
+    pub tag: Option<u16>,
     pub weight: i16,
     pub literals: Vec<Literal>,
-    // The literals again.
-    pub(crate) set: LiteralSet,
     // The level is from 1 to `TOP_LEVEL`.
     ghost low: { 1 ≤ level },
     ghost high: { level ≤ top_level },
@@ -23,15 +30,34 @@ pub struct Wish {
     // A wish has 1 to `MOST_WISH_LITERALS` literals.
     ghost some: { 1 ≤ vec_len literals },
     ghost few: { vec_len literals ≤ most_wish_literals },
-    // The set stands for the literals.
-    ghost same: { Stands set.plain set.nots (vec_items literals) },
+    // Each names a mark that there is.
+    ghost marks: { MarksInWidth (vec_items literals) },
 }
 
 impl Wish {
-    // Each of the literals is held.
-    pub fn are_all_held(&self, by: Interpretation) -> bool
-        ensures { result ≡ list_all (held by) (vec_items self.now.literals) }
+    ghost use Rattle.std.specs.Prelude.{◌≡◌};
+    ghost use Rattle.rulefile.specs.Model.{wish_of};
+    ghost use Rattle.rulefile.specs.WeakConstraints.{key_of, has_key};
+
+    // What it shares with its group, if it has a tag.
+    pub(crate) fn key(&self) -> Option<Key>
+        ensures { result ≡ key_of (wish_of self.now) }
     {
-        self.set.are_all_held(by)
+        Some(Key {
+            level: self.level,
+            weight: self.weight,
+            tag: self.tag?,
+        })
+    }
+
+    // It is in the group of the key.
+    pub(crate) fn has_key(&self, key: Key) -> bool
+        ensures { result ≡ has_key key (wish_of self.now) }
+    {
+        self.level == key.level && self.weight == key.weight && self.tag == Some(key.tag)
     }
 }
+
+// A wish as a record of kind 7 has it, so that each kind of record has a reader of its own.
+#[derive(Drop)]
+pub(crate) struct TaggedWish(pub(crate) Wish);

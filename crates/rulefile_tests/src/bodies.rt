@@ -5,7 +5,7 @@ use std::process::Abort;
 use std::test::Fail;
 
 // A good body for each kind after the head, with each act.
-const GOOD: [(u16, &[u8]); 8] = [
+const GOOD: [(u16, &[u8]); 9] = [
     (RULE, &[0, 1, 0, 0, 0, 2, 0, 0, 0, 0]),
     (
         RULE,
@@ -13,6 +13,7 @@ const GOOD: [(u16, &[u8]); 8] = [
     ),
     (CLAUSE, &[3, 0, 130, 3]),
     (WISH, &[8, 255, 255, 2, 128, 3]),
+    (TAGGED_WISH, &[8, 0, 128, 255, 255, 2, 128, 3]),
     (ACT, &[1, 0]),
     (ACT, &[2, 0]),
     (ACT, &[3, 1, 2, 3, 4, 5, 6, 7, 8]),
@@ -100,6 +101,32 @@ fn rule_fields(rt: HostRuntime) -> Result<(), Fail> {
     ];
     for (body, expected) in &cases {
         check_record(&rt, RULE, *body, *expected)?;
+    }
+    Ok(())
+}
+
+// The tag stands between level and weight, and has no range.
+#[test]
+fn tagged_wish_fields(rt: HostRuntime) -> Result<(), Fail> {
+    let cases: [(&[u8], Answer); 15] = [
+        (&[0], Err(OutOfRange)),
+        (&[9], Err(OutOfRange)),
+        (&[1], Err(BodyLength)),
+        (&[1, 17], Err(BodyLength)),
+        (&[1, 17, 39], Err(BodyLength)),
+        (&[1, 17, 39, 0, 0, 1, 0], Ok(())),
+        (&[1, 255, 255, 0, 0, 1, 0], Ok(())),
+        (&[1, 0, 0, 17], Err(BodyLength)),
+        (&[1, 0, 0, 17, 39], Err(OutOfRange)),
+        (&[1, 0, 0, 239, 216], Err(OutOfRange)),
+        (&[1, 0, 0, 0, 0, 0], Err(OutOfRange)),
+        (&[1, 0, 0, 0, 0, 17], Err(OutOfRange)),
+        (&[1, 0, 0, 0, 0, 2, 4], Err(MarkRange)),
+        (&[1, 0, 0, 0, 0, 2, 3, 132], Err(MarkRange)),
+        (&[1, 0, 0, 0, 0, 1, 132, 0], Err(MarkRange)),
+    ];
+    for (body, expected) in &cases {
+        check_record(&rt, TAGGED_WISH, *body, *expected)?;
     }
     Ok(())
 }

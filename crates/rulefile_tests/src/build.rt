@@ -16,6 +16,8 @@ pub const WISH: u16 = 4;
 
 pub const ACT: u16 = 5;
 
+pub const TAGGED_WISH: u16 = 7;
+
 // That a file is read, or why it is refused.
 pub type Answer = Result<(), Refusal>;
 

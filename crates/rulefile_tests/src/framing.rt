@@ -8,7 +8,7 @@ use std::test::Fail;
 // Faults of the first record are at 0.
 #[test]
 fn first_record(rt: HostRuntime) -> Result<(), Fail> {
-    let cases: [(&[u8], Answer); 17] = [
+    let cases: [(&[u8], Answer); 19] = [
         (&[], Err(RecordCut)),
         (&[11], Err(RecordCut)),
         (&[11, 0], Err(RecordCut)),
@@ -22,6 +22,8 @@ fn first_record(rt: HostRuntime) -> Result<(), Fail> {
         (&[3, 0, 0, 0, 1, 0], Err(LengthPastEnd)),
         (&[2, 0, 0, 0, 0, 0], Err(UnknownKind)),
         (&[2, 0, 0, 0, 6, 0], Err(UnknownKind)),
+        (&[2, 0, 0, 0, 7, 0], Err(HeadMisplaced)),
+        (&[2, 0, 0, 0, 8, 0], Err(UnknownKind)),
         (&[2, 0, 0, 0, 1, 1], Err(UnknownKind)),
         (&[2, 0, 0, 0, 2, 0], Err(HeadMisplaced)),
         (&[3, 0, 0, 0, 5, 0, 4], Err(HeadMisplaced)),
@@ -36,7 +38,7 @@ fn first_record(rt: HostRuntime) -> Result<(), Fail> {
 // A file may end after any record. Faults of a later record are at its own offset.
 #[test]
 fn later_record(rt: HostRuntime) -> Result<(), Fail> {
-    let cases: [(&[u8], Answer); 18] = [
+    let cases: [(&[u8], Answer); 21] = [
         (&[], Ok(())),
         (&[1], Err(RecordCut)),
         (&[1, 1], Err(RecordCut)),
@@ -52,6 +54,9 @@ fn later_record(rt: HostRuntime) -> Result<(), Fail> {
         (&[4, 0, 0, 0, 6, 0, 4], Err(LengthPastEnd)),
         (&[2, 0, 0, 0, 0, 0], Err(UnknownKind)),
         (&[2, 0, 0, 0, 6, 0], Err(UnknownKind)),
+        (&[2, 0, 0, 0, 7, 0], Err(BodyLength)),
+        (&[2, 0, 0, 0, 8, 0], Err(UnknownKind)),
+        (&[2, 0, 0, 0, 7, 1], Err(UnknownKind)),
         (&[3, 0, 0, 0, 5, 1, 4], Err(UnknownKind)),
         (&[2, 0, 0, 0, 1, 0], Err(HeadMisplaced)),
         (
@@ -78,9 +83,12 @@ fn length_1024_and_1025(rt: HostRuntime) -> Result<(), Fail> {
     for (kind, n, expected) in [
         (RULE, 1022, Err(BodyLength)),
         (CLAUSE, 1022, Err(BodyLength)),
+        (TAGGED_WISH, 1022, Err(OutOfRange)),
         (6, 1022, Err(UnknownKind)),
+        (8, 1022, Err(UnknownKind)),
         (HEAD, 1022, Err(HeadMisplaced)),
         (RULE, 1023, Err(LengthRange)),
+        (TAGGED_WISH, 1023, Err(LengthRange)),
         (6, 1023, Err(LengthRange)),
         (HEAD, 1023, Err(LengthRange)),
     ] {

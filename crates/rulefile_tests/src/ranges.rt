@@ -13,6 +13,7 @@ fn levels(rt: HostRuntime) -> Result<(), Fail> {
         (255, Err(OutOfRange)),
     ] {
         check_record(&rt, WISH, &[level, 0, 0, 1, 0], expected)?;
+        check_record(&rt, TAGGED_WISH, &[level, 0, 0, 0, 0, 1, 0], expected)?;
     }
     Ok(())
 }
@@ -31,6 +32,7 @@ fn wish_weights(rt: HostRuntime) -> Result<(), Fail> {
     for (weight, expected) in cases {
         let [a, b] = weight.to_le_bytes();
         check_record(&rt, WISH, &[1, a, b, 1, 0], expected)?;
+        check_record(&rt, TAGGED_WISH, &[1, 0, 0, a, b, 1, 0], expected)?;
     }
     Ok(())
 }
@@ -45,6 +47,8 @@ fn wish_literals(rt: HostRuntime) -> Result<(), Fail> {
     ] {
         let body = with_literals(rt.alloc(), &[1, 0, 0], n)?;
         check_record(&rt, WISH, body.as_slice(), expected)?;
+        let body = with_literals(rt.alloc(), &[1, 0, 0, 0, 0], n)?;
+        check_record(&rt, TAGGED_WISH, body.as_slice(), expected)?;
     }
     Ok(())
 }

@@ -1,7 +1,7 @@
 // What is read of good files. The handle comes first in every assertion, so it is no part of a struct with the file.
 use crate::build::*;
-use rulefile::{Act, Kind, Refusal, RuleFile, read, read_or_head_alone};
-use sheets::Literal;
+use rulefile::{Act, Kind, Refusal, RuleFile, WeakConstraint, read, read_or_head_alone};
+use sheets::{Interpretation, Literal};
 use std::process::Abort;
 use std::test::Fail;
 
@@ -66,16 +66,15 @@ fn check_element(
     Ok(())
 }
 
-// There is one wish, with one literal.
+// There is one wish, with this level, tag and weight, and one literal.
 fn check_wish(
     rt: &impl Abort,
     file: &RuleFile,
-    level: u8,
-    weight: i16,
+    expected: (u8, Option<u16>, i16),
     literal: Literal,
 ) -> Result<(), Fail> {
     let wish = only(file.wishes.as_slice())?;
-    assert_eq!(rt; (wish.level, wish.weight), (level, weight));
+    assert_eq!(rt; (wish.level, wish.tag, wish.weight), expected);
     assert_eq!(rt; *only(wish.literals.as_slice())?, literal);
     Ok(())
 }
@@ -84,7 +83,7 @@ fn check_worked_records(rt: &impl Abort, file: &RuleFile) -> Result<(), Fail> {
     check_rule(rt, file, 1, Some(1), 2)?;
     check_element(rt, file, 0, plain(0), 1)?;
     check_element(rt, file, 1, plain(1), 1)?;
-    check_wish(rt, file, 1, 3, plain(0))?;
+    check_wish(rt, file, (1, None, 3), plain(0))?;
     assert_eq!(rt; file.acts.as_slice(), [Act::Pin(0), Act::Bar(0)].as_slice());
     Ok(())
 }
@@ -167,9 +166,35 @@ fn weights_of_wishes(rt: HostRuntime) -> Result<(), Fail> {
     for weight in [10_000, 1, 0, -1, -256, -10_000] {
         let [a, b] = i16::to_le_bytes(weight);
         let file = accepted_of(rt.alloc(), 4, &[(WISH, &[8, a, b, 1, 3])])?;
-        check_wish(&rt, &file, 8, weight, plain(3))?;
+        check_wish(&rt, &file, (8, None, weight), plain(3))?;
     }
     Ok(())
+}
+
+// A tag may be any number of two bytes.
+#[test]
+fn tags_of_wishes(rt: HostRuntime) -> Result<(), Fail> {
+    for tag in [
+        0, 1, 2, 127, 128, 255, 256, 258, 513, 10_001, 32_767, 32_768, 55_535, 65_280, 65_534,
+        65_535,
+    ] {
+        let [a, b] = u16::to_le_bytes(tag);
+        let records: [(u16, &[u8]); 1] = [(TAGGED_WISH, &[8, a, b, 255, 255, 1, 131])];
+        let file = accepted_of(rt.alloc(), 4, &records)?;
+        check_wish(&rt, &file, (8, Some(tag), -1), negated(3))?;
+    }
+    Ok(())
+}
+
+// The tag stands before the weight, the lower byte of each first.
+#[test]
+fn tag_and_weight(rt: HostRuntime) -> Result<(), Fail> {
+    let records: [(u16, &[u8]); 1] = [(TAGGED_WISH, &[5, 2, 1, 4, 3, 1, 0])];
+    let file = accepted_of(rt.alloc(), 4, &records)?;
+    check_wish(&rt, &file, (5, Some(0x0102), 0x0304), plain(0))?;
+    let records: [(u16, &[u8]); 1] = [(TAGGED_WISH, &[5, 240, 216, 16, 39, 1, 0])];
+    let file = accepted_of(rt.alloc(), 4, &records)?;
+    check_wish(&rt, &file, (5, Some(55_536), 10_000), plain(0))
 }
 
 // There is one clause, with a mark and its "not".
@@ -227,29 +252,80 @@ fn house_sheet(rt: HostRuntime) -> Result<(), Fail> {
     Ok(())
 }
 
-// The kinds are act, wish, clause, wish, and the wishes have the levels 5 and 3.
+// The kinds are as in `mixed_kinds`, and the wishes have these levels and tags.
 fn check_mixed(rt: &impl Abort, file: &RuleFile) -> Result<(), Fail> {
     assert_eq!(rt;
         file.kinds.as_slice(),
-        [Kind::Act, Kind::Wish, Kind::Clause, Kind::Wish].as_slice()
+        [
+            Kind::Act,
+            Kind::Wish,
+            Kind::TaggedWish,
+            Kind::Clause,
+            Kind::Wish,
+        ]
+        .as_slice()
     );
-    let [first, second] = file.wishes.as_slice() else {
-        return Err(Fail::new("not two wishes"));
+    let [first, second, third] = file.wishes.as_slice() else {
+        return Err(Fail::new("not three wishes"));
     };
-    assert_eq!(rt; (first.level, second.level), (5, 3));
+    assert_eq!(rt; (first.level, second.level, third.level), (5, 8, 3));
+    assert_eq!(rt; (first.tag, second.tag, third.tag), (None, Some(3), None));
     Ok(())
 }
 
-// Kinds may be mixed, and each is read in file order.
+// Kinds may be mixed, and each is read in file order; wishes with and without a tag are one list.
 #[test]
 fn mixed_kinds(rt: HostRuntime) -> Result<(), Fail> {
-    let records: [(u16, &[u8]); 4] = [
+    let records: [(u16, &[u8]); 5] = [
         (ACT, &[4]),
         (WISH, &[5, 0, 0, 1, 0]),
+        (TAGGED_WISH, &[8, 3, 0, 0, 0, 1, 0]),
         (CLAUSE, &[0]),
         (WISH, &[3, 0, 0, 1, 0]),
     ];
     check_mixed(&rt, &accepted_of(rt.alloc(), 4, &records)?)
+}
+
+// What a weak constraint costs at which level, and whether {0} and {1} hold one of its members.
+fn held_by(weak: &impl WeakConstraint) -> (u8, i16, bool, bool) {
+    let [first, second] = [1, 2].map(|sheet| weak.is_one_held(Interpretation::of_sheet(sheet)));
+    (weak.level(), weak.weight(), first, second)
+}
+
+// The weak constraints with one member, and those with more, are these.
+fn check_weak(rt: &(impl Abort + AllocGlobal), file: &RuleFile) -> Result<(), Fail> {
+    let singles: Vec<(u8, i16, bool, bool)> = file.singles.iter().map(held_by).collect(rt.alloc())?;
+    let groups: Vec<(u8, i16, bool, bool)> = file.groups.iter().map(held_by).collect(rt.alloc())?;
+    assert_eq!(rt;
+        singles.as_slice(),
+        [
+            (1, 3, false, true),
+            (1, 2, false, true),
+            (1, 4, true, false),
+            (2, 3, false, true),
+            (1, 3, true, false),
+        ]
+        .as_slice()
+    );
+    assert_eq!(rt; groups.as_slice(), [(1, 3, true, true)].as_slice());
+    Ok(())
+}
+
+// Wishes without a tag come first, and then groups in the order of their first records; a group of one wish is a single.
+// Equal tags at another level, or with another weight, make another group.
+#[test]
+fn groups(rt: HostRuntime) -> Result<(), Fail> {
+    let records: [(u16, &[u8]); 8] = [
+        (TAGGED_WISH, &[1, 9, 0, 3, 0, 1, 0]),
+        (WISH, &[1, 3, 0, 1, 1]),
+        (TAGGED_WISH, &[1, 9, 0, 4, 0, 1, 0]),
+        (TAGGED_WISH, &[2, 9, 0, 3, 0, 1, 1]),
+        (TAGGED_WISH, &[1, 9, 0, 3, 0, 2, 0, 128]),
+        (TAGGED_WISH, &[1, 0, 9, 3, 0, 1, 0]),
+        (TAGGED_WISH, &[1, 9, 0, 3, 0, 1, 1]),
+        (WISH, &[1, 2, 0, 1, 1]),
+    ];
+    check_weak(&rt, &accepted_of(rt.alloc(), 4, &records)?)
 }
 
 #[test]

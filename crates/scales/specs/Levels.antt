@@ -7,7 +7,7 @@ use Rattle.rulefile.specs.Answers.{file_of}
 use Rattle.rulefile.specs.Model.{WishModel}
 use Rattle.scales.specs.declared.cost.LevelCost.{LevelCost}
 use Rattle.scales.specs.declared.levels.Levels.{Levels}
-use Rattle.scales.specs.Wishes.{wish_cost, wish_floor, sum_at, top, down_from, first_less}
+use Rattle.scales.specs.Wishes.{level_cost, level_floor, top, down_from, first_less}
 
 -- the wishes of the file
 abbrev pub wishes_of : Levels → List WishModel
@@ -16,8 +16,8 @@ wishes_of l = (file_of (rc_value l.file)).wishes
 -- the sums of what holds and of the floors, compared from the top level down
 abbrev pub levels_of : List WishModel → Scaling LevelCost
 levels_of ws = record {
-  cost = λ z. record { levels = down_from top (sum_at (wish_cost z) ws) };
-  floor = λ p a. record { levels = down_from top (sum_at (wish_floor p a) ws) };
+  cost = λ z. record { levels = down_from top (level_cost z ws) };
+  floor = λ p a. record { levels = down_from top (level_floor p a ws) };
   below = λ a b. first_less a.levels b.levels;
 }
 

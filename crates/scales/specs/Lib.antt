@@ -1,4 +1,5 @@
 pub mod Wishes
+pub mod Theorems
 pub mod Levels
 pub mod Distances
 pub mod Words

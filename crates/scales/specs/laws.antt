@@ -1,3 +1,4 @@
 pub mod Counts
 pub mod Sums
 pub mod Orders
+pub mod Groups

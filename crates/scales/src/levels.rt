@@ -2,7 +2,7 @@
 ghost use Rattle.std.specs.Prelude.{◌≡◌, ◌↔◌, ℕ, IsTrue, IfOk};
 ghost use Rattle.rulefile.specs.Format.{decode, file_or_head_alone};
 ghost use Rattle.scales.specs.Levels.{wishes_of, levels_of, cheaper};
-ghost use Rattle.scales.specs.Wishes.{wish_cost, sum_at, cost_at, Dominates};
+ghost use Rattle.scales.specs.Wishes.{level_cost, cost_at, Dominates};
 ghost use Rattle.scales.specs.laws.Sums.{levels_laws};
 
 use crate::cost::LevelCost;
@@ -35,10 +35,11 @@ impl Levels {
         Ok(Levels::new(Rc::new(heap, file)?))
     }
 
-    // At each level, the sum of the weights of the wishes that hold in the sheet.
+    // At each level, the sum of the weights of the weak constraints that hold in the sheet: a wish without a tag counts by
+    // itself, and a group of wishes once.
     pub fn cost(&self, sheet: Sheet) -> LevelCost
         ensures value { result ≡ (levels_of (wishes_of self.now)).cost sheet }
-        ensures sums { (n : ℕ) → cost_at result.levels n ≡ sum_at (wish_cost sheet) (wishes_of self.now) n }
+        ensures sums { (n : ℕ) → cost_at result.levels n ≡ level_cost sheet (wishes_of self.now) n }
     {
         self.floor(PartSheet::of_sheet(sheet))
     }

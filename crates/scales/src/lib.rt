@@ -10,4 +10,4 @@ mod wishes;
 pub use cost::LevelCost;
 pub use distance::Distance;
 pub use levels::Levels;
-pub use theorems::costs_stand;
+pub use theorems::{costs_stand, groups_stand};

@@ -11,7 +11,7 @@ use Rattle.judges.specs.Books.{obeys, lawful}
 use Rattle.judges.specs.Verdicts.{FirstBroken, FirstUngrounded}
 use Rattle.judges.specs.laws.Grounds.{lawful_yes, lawful_from, obeyed}
 use Rattle.judges.specs.laws.BookLaws.{inside}
-use Rattle.scales.specs.Wishes.{wish_cost, sum_at}
+use Rattle.scales.specs.Wishes.{level_cost}
 use Rattle.orders.specs.Searches.{present_at, absent_at, none, more}
 use Rattle.semantics_tests.specs.Cases.{at_most_one, each_other, if_missing, if_not_missing, budget, two_levels, CasesStand}
 
@@ -54,6 +54,9 @@ cases = record {
   budget_broken = record { within = omega arith; fails = λ d. refl; before = first };
   levels_apart = record { level = 2; used = refl; less = omega (arith, ints); same = above };
   levels_cheaper = refl;
+  shared_one = refl;
+  shared_both = refl;
+  shared_floor = refl;
   search_steps = more refl (more refl (more refl none));
 }
   where
@@ -61,5 +64,5 @@ cases = record {
     first zero lt d = refl
     first (suc k) lt d = absurd (omega arith)
 
-    above : (m : ℕ) → 2 < m → sum_at (wish_cost 2) two_levels m ≡ sum_at (wish_cost 1) two_levels m
+    above : (m : ℕ) → 2 < m → level_cost 2 two_levels m ≡ level_cost 1 two_levels m
     above m lt = rw (ne_eqb 2 m (omega arith), ne_eqb 1 m (omega arith))

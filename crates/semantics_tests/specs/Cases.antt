@@ -7,7 +7,7 @@ use Rattle.rulefile.specs.Format.{head_alone}
 use Rattle.judges.specs.declared.verdicts.Verdict.TheVariants.{Lawful, Broken, Ungrounded}
 use Rattle.judges.specs.Programs.{AnswerSet}
 use Rattle.judges.specs.Verdicts.{Says}
-use Rattle.scales.specs.Wishes.{Dominates}
+use Rattle.scales.specs.Wishes.{level_cost, level_floor, Dominates}
 use Rattle.scales.specs.declared.cost.LevelCost.{LevelCost}
 use Rattle.scales.specs.Levels.{levels_of, cheaper}
 use Rattle.scales.specs.Distances.{distance_of}
@@ -72,8 +72,17 @@ budget =
 -- weight 1 at level 2 where mark 0 is there, and weight 100 at level 1 where mark 1 is
 abbrev pub two_levels : List WishModel
 two_levels =
-    record { level = 2; weight = pos 1; literals = record { mark = 0; negated = false } ∷ [] }
-    ∷ record { level = 1; weight = pos 100; literals = record { mark = 1; negated = false } ∷ [] }
+    record { level = 2; tag = None; weight = pos 1; literals = record { mark = 0; negated = false } ∷ [] }
+    ∷ record { level = 1; tag = None; weight = pos 100; literals = record { mark = 1; negated = false } ∷ [] }
+    ∷ []
+
+-- three wishes of level 1 and weight 3: one where mark 0 is there and one where mark 1 is, which share tag 17, and the first again
+-- with tag 18
+abbrev pub shared : List WishModel
+shared =
+    record { level = 1; tag = Some 17; weight = pos 3; literals = record { mark = 0; negated = false } ∷ [] }
+    ∷ record { level = 1; tag = Some 17; weight = pos 3; literals = record { mark = 1; negated = false } ∷ [] }
+    ∷ record { level = 1; tag = Some 18; weight = pos 3; literals = record { mark = 0; negated = false } ∷ [] }
     ∷ []
 
 -- a head alone with count 1 and an empty house sheet
@@ -112,5 +121,10 @@ pub record CasesStand : Type 0 where
   -- weight 1 at level 2 costs more than 100 at level 1
   pub levels_apart : Dominates two_levels (sheet (1 ∷ [])) (sheet (0 ∷ []))
   pub levels_cheaper : cheaper two_levels (sheet (1 ∷ [])) (sheet (0 ∷ [])) ≡ true
+  -- two wishes that share a tag cost once, and another tag costs besides
+  pub shared_one : level_cost (sheet (1 ∷ [])) shared 1 ≡ pos 3
+  pub shared_both : level_cost (sheet (0 ∷ 1 ∷ [])) shared 1 ≡ pos 6
+  -- a floor goes member by member: with mark 0 absent and mark 1 open, nothing is sure
+  pub shared_floor : level_floor (sheet []) (sheet (0 ∷ [])) shared 1 ≡ pos 0
   -- count 1, no rules, no acts: a search takes three steps, and settles on {}
   pub search_steps : Steps (under (book_of alone) []) engine_scale start 3 settled_empty

@@ -13,6 +13,7 @@ fn kind_name(kind: Kind) -> &'static str {
         Kind::Clause => "clause",
         Kind::Wish => "wish",
         Kind::Act => "act",
+        Kind::TaggedWish => "wish with a tag",
     }
 }
 
@@ -71,6 +72,7 @@ impl fmt::Display for FieldText {
             Field::LiteralCount => f.write_str("literal count"),
             Field::Literal(number) => write!(f, "literal {number}"),
             Field::Level => f.write_str("level"),
+            Field::Tag => f.write_str("tag"),
             Field::Weight => f.write_str("weight"),
             Field::Code => f.write_str("code"),
             Field::Mark => f.write_str("mark"),
@@ -113,11 +115,12 @@ impl FoundText {
         write!(f, "{field}: mark {mark}, allowed below {count}")
     }
 
-    // The number of a kind, where the kinds to the last are allowed.
+    // The number of a kind, where all kinds are allowed.
     fn kind<W: fmt::Write>(f: &mut Formatter<W>, code: u16) -> fmt::Result {
         let first = Kind::Head.number();
         let last = Kind::Act.number();
-        write!(f, "kind: {code}, allowed {first} to {last}")
+        let tagged = Kind::TaggedWish.number();
+        write!(f, "kind: {code}, allowed {first} to {last} and {tagged}")
     }
 
     // The number of another kind in record 0, where a head alone is allowed.
@@ -131,7 +134,11 @@ impl FoundText {
         let head = Kind::Head.number();
         let first = Kind::Rule.number();
         let last = Kind::Act.number();
-        write!(f, "kind: {head}, allowed {first} to {last} after record 0")
+        let tagged = Kind::TaggedWish.number();
+        write!(
+            f,
+            "kind: {head}, allowed {first} to {last} and {tagged} after record 0"
+        )
     }
 
     // The length of a record.

@@ -29,6 +29,7 @@ pub enum Field {
     LiteralCount,
     Literal(u8),
     Level,
+    Tag,
     Weight,
     Code,
     Mark,
@@ -52,7 +53,7 @@ pub enum Found {
     NoHead(u16),
     // A head in a later record.
     SecondHead,
-    // `MOST_OF_KIND` records of its kind before it.
+    // `MOST_OF_KIND` records of its kind before it; wishes of both kinds count as one.
     TooMany,
     // So many bytes left for a field, and how many it takes.
     Missing(Field, usize, usize),
@@ -94,7 +95,23 @@ pub struct Fault {
     pub found: Found,
 }
 
-// What is wrong with the kind of a record, where `number` records stand before it and so many of them have its kind.
+// The kind as which records of this kind are counted.
+fn counted_as(kind: Kind) -> Kind {
+    match kind {
+        Kind::TaggedWish => Kind::Wish,
+        _ => kind,
+    }
+}
+
+// The record is counted as this kind.
+fn is_counted_as(record: &Record<'_>, kind: Kind) -> bool {
+    match Kind::try_from(record.kind) {
+        Ok(own) => counted_as(own) == kind,
+        Err(_) => false,
+    }
+}
+
+// What is wrong with the kind of a record, where `number` records stand before it and so many of them are counted as its kind.
 fn find_in_kind(number: usize, kind: Kind, code: u16, same: usize) -> Option<Found> {
     match (number, kind) {
         (0, Kind::Head) => None,
@@ -134,7 +151,10 @@ fn find(before: &[u8], bytes: &[u8]) -> Option<Fault> {
     let Ok(kind) = Kind::try_from(code) else {
         return Some(at(None, Found::UnknownKind(code)));
     };
-    let same = Records(before).filter(|other| other.kind == code).count();
+    let counted = counted_as(kind);
+    let same = Records(before)
+        .filter(|other| is_counted_as(other, counted))
+        .count();
     let mut walk = Walk {
         rest: record.body,
         count: count_of(before),

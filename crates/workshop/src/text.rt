@@ -112,11 +112,15 @@ fn write_clause<W: fmt::Write>(f: &mut Formatter<W>, clause: &Clause) -> fmt::Re
     write_between(f, clause.literals.iter().copied().map(LiteralText), " or ")
 }
 
-// The level and the weight of the wish, and the literals that are all to hold.
+// The level of the wish, its tag if it has one, its weight, and the literals that are all to hold.
 fn write_wish<W: fmt::Write>(f: &mut Formatter<W>, wish: &Wish) -> fmt::Result {
     let level = wish.level;
+    write!(f, "wish: level {level}, ")?;
+    if let Some(tag) = wish.tag {
+        write!(f, "tag {tag}, ")?;
+    }
     let weight = wish.weight;
-    write!(f, "wish: level {level}, weight {weight}, if ")?;
+    write!(f, "weight {weight}, if ")?;
     write_between(f, wish.literals.iter().copied().map(LiteralText), " and ")
 }
 
@@ -137,7 +141,7 @@ impl fmt::Display for RecordText<'_> {
     }
 }
 
-// The records of each kind that are still to come.
+// The records of each list that are still to come.
 #[derive(Drop)]
 struct Records<'a> {
     // With their numbers, of a range: `next` of an `Enumerate` asks that the number fits, which no type says here.
@@ -166,7 +170,7 @@ impl<'a> Records<'a> {
                 Some(RecordText::Rule(number, rule))
             }
             Kind::Clause => Some(RecordText::Clause(self.clauses.next()?)),
-            Kind::Wish => Some(RecordText::Wish(self.wishes.next()?)),
+            Kind::Wish | Kind::TaggedWish => Some(RecordText::Wish(self.wishes.next()?)),
             Kind::Act => Some(RecordText::Act(*self.acts.next()?)),
         }
     }

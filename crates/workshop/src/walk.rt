@@ -143,15 +143,33 @@ impl Walk<'_> {
         Ok(())
     }
 
-    // The body of a wish.
-    fn wish(&mut self) -> Result<(), Found> {
+    // The level of a wish.
+    fn level(&mut self) -> Result<(), Found> {
         self.number(Field::Level, 1, TOP_LEVEL)?;
+        Ok(())
+    }
+
+    // What a wish has behind its level and its tag: the weight, and the literals.
+    fn weighed(&mut self) -> Result<(), Found> {
         let weight = i16::from_le_bytes(self.bytes(Field::Weight)?);
         if !(-MOST_WEIGHT..=MOST_WEIGHT).contains(&weight) {
             let most: i32 = MOST_WEIGHT.into();
             return Err(Found::Number(Field::Weight, weight.into(), -most, most));
         }
         self.literals(1, MOST_WISH_LITERALS)
+    }
+
+    // The body of a wish.
+    fn wish(&mut self) -> Result<(), Found> {
+        self.level()?;
+        self.weighed()
+    }
+
+    // The body of a wish with a tag, which can be any number of two bytes.
+    fn tagged_wish(&mut self) -> Result<(), Found> {
+        self.level()?;
+        self.bytes::<2>(Field::Tag)?;
+        self.weighed()
     }
 
     // The body of an act.
@@ -176,6 +194,7 @@ impl Walk<'_> {
             Kind::Clause => self.literals(0, MOST_CLAUSE_LITERALS)?,
             Kind::Wish => self.wish()?,
             Kind::Act => self.act()?,
+            Kind::TaggedWish => self.tagged_wish()?,
         }
         if self.rest.is_empty() {
             Ok(())

@@ -42,4 +42,4 @@ finish-requires c = (accepted c.args.bytes.now _ (c.loop-rest.invariant.1.2 ∙ 
 
 pub returns : goal.returns
 returns c =
-    reading _ _ (c.loop-rest.invariant.1.2 ∙ records_all c.loop-rest.invariant.1.0 _ _ c.loop-rest.rest.now (none_left _ c.loop-rest-test.ensures) ∙ ap Ok (sym c.finish.ensures))
+    reading _ _ (c.loop-rest.invariant.1.2 ∙ records_all c.loop-rest.invariant.1.0 _ _ c.loop-rest.rest.now (none_left _ c.loop-rest-test.ensures) ∙ ap Ok (sym c.in_ok-finish.ensures))
