@@ -20,7 +20,7 @@ fn held_weight(elements: &[Element], by: Interpretation) -> u32
         .sum()
 }
 
-// The sum of the constraint: counted where its elements weigh the same.
+// The sum of the constraint: counted where it has elements and they weigh the same.
 pub(crate) fn sum(constraint: &Constraint, by: Interpretation) -> u32
     ensures { result ≡ weigh (held by) (constraint_of constraint.now).elements }
 {

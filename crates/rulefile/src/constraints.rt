@@ -22,7 +22,7 @@ pub struct Constraint {
     // The high bound, if there is one.
     pub high: Option<u32>,
     pub elements: Vec<Element>,
-    // The elements again, where they weigh the same.
+    // The elements again, where there are some and they weigh the same.
     pub(crate) uniform: Option<Uniform>,
     // A constraint has at most `MOST_ELEMENTS` elements.
     ghost few: { vec_len elements ≤ most_elements },
@@ -31,7 +31,7 @@ pub struct Constraint {
 }
 
 impl Constraint {
-    // The elements, where they weigh the same and none stands twice.
+    // The elements, where there are some, they weigh the same and none stands twice.
     pub fn uniform(&self) -> Option<Uniform>
         ensures { result ≡ self.now.uniform }
     {

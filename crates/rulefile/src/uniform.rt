@@ -19,11 +19,12 @@ pub struct Uniform {
 }
 
 impl Uniform {
-    // The elements as such, unless two weights differ or one literal stands twice.
+    // The elements as such, unless there are none, two weights differ or one literal stands twice. Of none the sum is found
+    // sooner by going through them.
     pub(crate) fn of(elements: &[Element]) -> Option<Uniform>
         ensures { MarksInWidth (literals_of elements.now) → IfSome result (AreUniform elements.now) }
     {
-        let weight = elements.first().map_or(0, |first| first.weight);
+        let weight = elements.first()?.weight;
         let mut literals = LiteralSet::empty();
         // A `for`: it ends at the first element that does not fit.
         for element in elements {
