@@ -11,12 +11,12 @@ use std::io::{ErrorKind, Read};
 
 // The first so many bytes of an input mean what the whole does, and no fewer do: they are one more than a file may have, so
 // that a longer one is seen to be too long.
-pub fn input_limit() -> usize
+pub fn input_limit() -> u64
     ensures value { result ≡ input_bytes }
     ensures enough { Enough result }
     ensures fewest { Fewest result }
 {
-    MOST_BYTES + 1
+    (MOST_BYTES + 1) as u64
 }
 
 // Reads until the buffer is full or the reader is at its end, and answers how many bytes stand in the buffer. The library's
@@ -54,7 +54,7 @@ pub fn read_input<R: Read>(heap: Global, input: &mut R) -> io::Result<Vec<u8>>
     ensures bound { GivesAtMost input_bytes (R.remaining input.old) (R.remaining input.new) }
     ensures size { IfOk result (λ file. vec_len file ≤ input_bytes) }
 {
-    let mut file = vec![in heap; 0; input_limit()]?;
+    let mut file = vec![in heap; 0; input_limit() as usize]?;
     let length = fill(input, &mut file)?;
     file.truncate(length);
     Ok(file)
