@@ -3,12 +3,13 @@ ghost use Rattle.std.specs.Iterator.{IsFinite};
 
 use rulefile::{Act, BadFile, Clause, Constraint, Element, Kind, Rule, RuleFile, Wish};
 use sheets::{Literal, Sheet, WIDTH, has_mark};
-use std::fmt::Formatter;
+use std::fmt::{Display, Formatter};
 use std::iter::Zip;
 use std::ops::Range;
 use std::{fmt, slice};
 
-// Writes the items, with the text between each and the next.
+// Writes the items, with the text between each and the next. No `write!` for an item, here and in `LiteralText` and
+// `ElementText`: it looks at its pieces each time, and a file can have thousands of items.
 fn write_between<W: fmt::Write, I: Iterator>(
     f: &mut Formatter<W>,
     mut items: I,
@@ -23,9 +24,10 @@ where
     let Some(first) = items.next() else {
         return Ok(());
     };
-    write!(f, "{first}")?;
+    first.fmt(f)?;
     for item in items {
-        write!(f, "{between}{item}")?;
+        f.write_str(between)?;
+        item.fmt(f)?;
     }
     Ok(())
 }
@@ -50,8 +52,10 @@ struct LiteralText(Literal);
 impl fmt::Display for LiteralText {
     fn fmt<W: fmt::Write>(&self, f: &mut Formatter<W>) -> fmt::Result {
         let Literal { mark, negated } = self.0;
-        let not = if negated { "not " } else { "" };
-        write!(f, "{not}{mark}")
+        if negated {
+            f.write_str("not ")?;
+        }
+        mark.fmt(f)
     }
 }
 
@@ -61,9 +65,9 @@ struct ElementText(Element);
 
 impl fmt::Display for ElementText {
     fn fmt<W: fmt::Write>(&self, f: &mut Formatter<W>) -> fmt::Result {
-        let literal = LiteralText(self.0.literal);
-        let weight = self.0.weight;
-        write!(f, "{literal}={weight}")
+        LiteralText(self.0.literal).fmt(f)?;
+        f.write_str("=")?;
+        self.0.weight.fmt(f)
     }
 }
 

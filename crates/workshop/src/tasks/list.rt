@@ -4,7 +4,7 @@ use crate::input::read_file;
 use crate::text::FileText;
 use crate::words::path_alone;
 use rulefile::RuleFile;
-use std::alloc::{AllocError, Global};
+use std::alloc::Global;
 use std::rc::Rc;
 
 pub const HELP: &str =
@@ -24,21 +24,22 @@ impl List {
     }
 
     pub fn run(&self, rt: &HostRuntime) -> anyhow::Result<()> {
-        if let Some(file) = read_file(rt, &self.path)? {
-            let lines = lines_of(rt.alloc(), &file)?;
-            print!(rt; "{lines}")?;
+        match read_file(rt, &self.path)? {
+            Some(file) => print_file(rt, &file),
+            None => Ok(()),
         }
-        Ok(())
     }
 }
 
-// The records of the file, and what is said of its house sheet.
-fn lines_of(heap: Global, file: &Rc<RuleFile>) -> Result<String, AllocError> {
+// Prints the records of the file, and what is said of its house sheet, piece by piece: the whole text in memory would be
+// larger than the file.
+fn print_file(rt: &HostRuntime, file: &Rc<RuleFile>) -> anyhow::Result<()> {
     let text = FileText { file };
     let house = FactsText {
         file,
         facts: SheetFacts::new(file, file.house)?,
         name: "house sheet: ",
     };
-    format!(in heap; "{text}{house}")
+    print!(rt; "{text}{house}")?;
+    Ok(())
 }
