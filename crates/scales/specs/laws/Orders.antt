@@ -57,6 +57,10 @@ less_transitive (x ∷ xs) (y ∷ ys) (z ∷ zs) t u =
 pub less_order : OrderLaws first_less
 less_order = order_from first_less less_some less_itself less_transitive
 
+-- not both below and above
+pub less_turned : (a b : List ℤ) → first_less a b ≡ true → first_less b a ≡ false
+less_turned = less_order.asymmetric
+
 -- ---- from a level down to 1
 
 pub down_above : (n : ℕ) (g h : ℕ → ℤ) → ((m : ℕ) → g m ≤ℤ h m) → first_less (down_from n h) (down_from n g) ≡ false

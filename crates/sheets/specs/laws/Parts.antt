@@ -22,6 +22,10 @@ and_from_apart w y z p q h =
     same_marks w (bit_and y z) 0 (and_lt w y z p q) (pow_pos w)
     (λ i lt. has_and y z i ∙ ⊎_elim (λ t. and_right (has y i) (has z i) (h i t)) (and_left (has y i) (has z i)) (cases_Bool (has y i)) ∙ sym (has_none i))
 
+-- a part-sheet as the code holds it: two words whose `&` is 0
+pub part_from_and : (p a : ℕ) → p < 2 ^ width → a < 2 ^ width → bit_and p a ≡ 0 → Part p a
+part_from_and p a u v e = record { present_word = u; absent_word = v; apart = apart_from_and p a e }
+
 -- ---- the marks that a sheet lacks
 
 module _ (z : ℕ) (word : z < 2 ^ width) where
