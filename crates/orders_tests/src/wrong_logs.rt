@@ -6,7 +6,7 @@ use orders::{Answer, Call, Event, Progress, Refusal};
 use sheets::{PartSheet, Sheet};
 use std::alloc::{AllocError, Global};
 
-// An advance over the sheets of one mark, which comes to a full place.
+// An advance that comes to a full place.
 fn shown(
     most: u16,
     steps: u16,
@@ -32,12 +32,13 @@ fn event(call: Call, answer: Answer<u64>) -> Event<u64> {
     Event { call, answer }
 }
 
-// How many differences are counted of the log, where both sheets of one mark are allowed, and that with the mark costs 1.
+// How many differences are counted of the log, where all sheets of two marks are allowed but the one with both. The empty one
+// costs 0, that with mark 0 costs 1, and that with mark 1 costs 2.
 fn differences_of(heap: Global, log: &[Event<u64>]) -> Result<u64, AllocError> {
     let case = Case {
-        count: 1,
-        allowed: vec![in heap; 0, 1]?,
-        first: 1,
+        count: 2,
+        allowed: vec![in heap; 0, 1, 2]?,
+        first: 3,
         second: 0,
     };
     let mut tally = Tally::new();
@@ -80,7 +81,7 @@ fn run_wrong_answers(rt: &HostRuntime) -> anyhow::Result<()> {
         &[
             &[event(Call::Pin(0), Answer::Stands(2))],
             &[event(Call::Seek, Answer::Stands(0))],
-            &[event(Call::Pin(1), refused)],
+            &[event(Call::Pin(2), refused)],
         ],
     )
 }
@@ -100,7 +101,7 @@ fn run_wrong_settlings(rt: &HostRuntime) -> anyhow::Result<()> {
 }
 
 // Too few steps; more than were called; an end on the dearer sheet; a cheaper sheet before the place, and one where none is
-// held; a sheet that does not keep the acts; a wrong cost.
+// held, which differs from the place in mark 0 or in mark 1; a sheet that does not keep the acts; a wrong cost.
 fn run_wrong_advances(rt: &HostRuntime) -> anyhow::Result<()> {
     let pinned = event(Call::Pin(0), Answer::Stands(1));
     print_found(
@@ -112,6 +113,7 @@ fn run_wrong_advances(rt: &HostRuntime) -> anyhow::Result<()> {
             &[shown(3, 3, true, 0, Some((1, 1)))],
             &[shown(2, 2, false, 1, Some((1, 1)))],
             &[shown(2, 2, false, 1, None)],
+            &[shown(2, 2, false, 2, None)],
             &[pinned, shown(2, 2, false, 0, Some((0, 0)))],
             &[shown(2, 2, false, 0, Some((1, 0)))],
         ],
